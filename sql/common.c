@@ -140,28 +140,102 @@ H3Error h3sql_operate(h3sql_List *out, h3sql_Operation *operation, const h3sql_L
     return error;
 }
 
-H3Error h3sql_prepare(h3sql_List *prepared, const h3sql_List *list, bool is_region, h3sql_Resize resize, void *engine) {
-    const H3Index *cells = cells_of(list);
-    size_t count = list->count;
-    /* the region stands behind the room of the zones that are made of it */
-    H3Error error = take_room(prepared, is_region ? 2 * count : count, resize, engine);
-    if (!error && is_region) {
-        H3Index *region = prepared->cells + list->count;
-        error = h3w_uniteCells(cells, list->count, region, list->count, &count);
-        cells = region;
-    }
-    if (!error) error = h3w_zones(cells, count, prepared->cells, count);
-    if (!error) {
-        void *less = resize(engine, prepared->cells, (count + 1) * sizeof *cells);
-        prepared->count = count;
-        if (less) prepared->cells = less;
-    }
+size_t h3sql_prepared_size(h3sql_Kind kind, size_t count) {
+    return count * (sizeof(H3Index) + (kind == H3SQL_PLACES ? sizeof(uint32_t) : 0));
+}
+
+/* The numbers behind prepared zones. */
+static uint32_t *places_of(const h3sql_List *prepared) { return (uint32_t *)(prepared->cells + prepared->count); }
+
+/* The zones of a region, which stands behind the room for them. */
+static H3Error prepare_region(h3sql_List *prepared, const h3sql_List *list) {
+    H3Index *region = prepared->cells + list->count;
+    size_t count;
+    H3Error error = h3w_uniteCells(cells_of(list), list->count, region, list->count, &count);
+    if (!error) error = h3w_zones(region, count, prepared->cells, count);
+    if (!error) prepared->count = count;
     return error;
+}
+
+/* Zones, with the place of each behind all, and room for as many numbers behind these. */
+static H3Error prepare_places(h3sql_List *prepared, const h3sql_List *list, int32_t first) {
+    size_t count = list->count, i;
+    uint32_t *places = (uint32_t *)(prepared->cells + count), *numbers = places + count;
+    for (i = 0; i < count; i++) numbers[i] = (uint32_t)first + (uint32_t)i;
+    return h3w_areas(cells_of(list), count, numbers, count, prepared->cells, count, places, count, &prepared->count);
+}
+
+static int by_number(const void *a, const void *b) {
+    H3Index first = *(const H3Index *)a, second = *(const H3Index *)b;
+    return (first > second) - (first < second);
+}
+
+/* Zones that may overlap, ascending. */
+static H3Error prepare_overlapping(h3sql_List *prepared, const h3sql_List *list) {
+    if (!h3sql_has_cells_only(list)) return E_CELL_INVALID;
+    if (list->count) memcpy(prepared->cells, list->cells, list->count * sizeof *list->cells);
+    qsort(prepared->cells, list->count, sizeof *list->cells, by_number);
+    prepared->count = list->count;
+    return E_SUCCESS;
+}
+
+static H3Error prepare_zones(h3sql_List *prepared, const h3sql_List *list) {
+    H3Error error = h3w_zones(cells_of(list), list->count, prepared->cells, list->count);
+    if (!error) prepared->count = list->count;
+    return error;
+}
+
+H3Error h3sql_prepare(h3sql_List *prepared, const h3sql_List *list, h3sql_Kind kind, int32_t first, h3sql_Resize resize,
+                      void *engine) {
+    bool is_twice = kind == H3SQL_REGION || kind == H3SQL_PLACES;
+    void *less;
+    H3Error error = take_room(prepared, is_twice ? 2 * list->count : list->count, resize, engine);
+    if (error) return error;
+    switch (kind) {
+        case H3SQL_REGION:
+            error = prepare_region(prepared, list);
+            break;
+        case H3SQL_PLACES:
+            error = prepare_places(prepared, list, first);
+            break;
+        case H3SQL_OVERLAPPING:
+            error = prepare_overlapping(prepared, list);
+            break;
+        default:
+            error = prepare_zones(prepared, list);
+    }
+    if (error) return error;
+    less = resize(engine, prepared->cells, h3sql_prepared_size(kind, prepared->count) + sizeof *prepared->cells);
+    if (less) prepared->cells = less;
+    return E_SUCCESS;
 }
 
 H3Error h3sql_zone_of(const h3sql_List *prepared, H3Index cell, H3Index *zone) {
     size_t at;
     return h3w_cellsToZones(cells_of(prepared), prepared->count, &cell, 1, zone, 1, &at);
+}
+
+H3Error h3sql_place_of(const h3sql_List *prepared, H3Index cell, bool *found, int32_t *place) {
+    static const uint32_t nothing = 0;
+    const uint32_t *places = prepared->count ? places_of(prepared) : &nothing;
+    int64_t number = -1;
+    size_t at;
+    H3Error error =
+        h3w_cellsToZonesPlaces(cells_of(prepared), prepared->count, places, prepared->count, &cell, 1, &number, 1, &at);
+    *found = number >= 0;
+    *place = (int32_t)(uint32_t)number;
+    return error;
+}
+
+H3Error h3sql_zones_of(const h3sql_List *prepared, H3Index cell, H3Index out[H3SQL_ANCESTORS], size_t *count) {
+    H3Index ancestors[H3SQL_ANCESTORS];
+    size_t all, i;
+    H3Error error = h3sql_ancestors(cell, ancestors, &all);
+    *count = 0;
+    for (i = 0; !error && i < all; i++)
+        if (bsearch(&ancestors[i], cells_of(prepared), prepared->count, sizeof *ancestors, by_number))
+            out[(*count)++] = ancestors[i];
+    return error;
 }
 
 /* Mixes a word into a hash: by odd constants, with the upper half folded into the lower one. */

@@ -70,14 +70,30 @@ typedef H3Error h3sql_Operation(const H3Index *, size_t, const H3Index *, size_t
 H3Error h3sql_operate(h3sql_List *out, h3sql_Operation *operation, const h3sql_List *first, const h3sql_List *second,
                       h3sql_Resize resize, void *engine);
 
-/* Prepares a list for h3w_cellsToZones and h3w_areCoveredCells: as zones, of which no two may
- * overlap, or as a region. In every case `prepared` has the memory that was taken, which is the
- * engine's. */
-H3Error h3sql_prepare(h3sql_List *prepared, const h3sql_List *list, bool is_region, h3sql_Resize resize, void *engine);
+/* What a list is prepared as: zones, of which no two may overlap; a region, of cells that may; zones with the place of
+ * each in the list; or a list of zones that may overlap. */
+typedef enum { H3SQL_ZONES, H3SQL_REGION, H3SQL_PLACES, H3SQL_OVERLAPPING } h3sql_Kind;
 
-/* Whether prepared cells cover a cell, and which of them does; H3_NULL where none does.
- * E_CELL_INVALID: the index is not a valid cell. */
+/* Prepares a list for the look-ups below. With H3SQL_PLACES, `first` is the number of the first place, and a number for
+ * each zone stands behind the zones. In every case `prepared` has the memory that was taken, which is the engine's. */
+H3Error h3sql_prepare(h3sql_List *prepared, const h3sql_List *list, h3sql_Kind kind, int32_t first, h3sql_Resize resize,
+                      void *engine);
+
+/* How many bytes a list of so many zones has that was prepared. */
+size_t h3sql_prepared_size(h3sql_Kind kind, size_t count);
+
+/* Whether prepared cells cover a cell, and which of them does; H3_NULL where none does. They are zones, with places or
+ * without, or a region. E_CELL_INVALID: the index is not a valid cell. */
 H3Error h3sql_zone_of(const h3sql_List *prepared, H3Index cell, H3Index *zone);
+
+/* The place of the zone of a cell in the list that was prepared, with H3SQL_PLACES, if it has one. Errors as above. */
+H3Error h3sql_place_of(const h3sql_List *prepared, H3Index cell, bool *found, int32_t *place);
+
+/* The most cells that are a cell or its ancestors. */
+#define H3SQL_ANCESTORS 16
+
+/* The zones that cover a cell, of those prepared as H3SQL_OVERLAPPING, each once, coarsest first. Errors as above. */
+H3Error h3sql_zones_of(const h3sql_List *prepared, H3Index cell, H3Index out[H3SQL_ANCESTORS], size_t *count);
 
 /* Prepared arrays or texts that are kept, and found by a hash of what was given. An engine's own type
  * begins with an h3sql_Kept. All bytes 0, the cache is empty. */
@@ -113,9 +129,6 @@ H3Error h3sql_keep(h3sql_Cache *cache, h3sql_Kept *kept, size_t cells, h3sql_Res
  * out. Which one is chance: of arrays that a loop takes in turn a bit more than fit, most are found again,
  * where the oldest would always be the next one that is asked for. */
 h3sql_Kept *h3sql_evict(h3sql_Cache *cache, size_t most, const h3sql_Kept *but);
-
-/* The most cells that are a cell or its ancestors. */
-#define H3SQL_ANCESTORS 16
 
 /* A cell's ancestors and the cell itself, ascending. E_CELL_INVALID: the index is not a valid cell. */
 H3Error h3sql_ancestors(H3Index cell, H3Index out[H3SQL_ANCESTORS], size_t *count);

@@ -405,8 +405,10 @@ METHOD(jlong, getDirectedEdgeDestination)(JNIEnv *env, jclass own, jbyteArray by
 
 /* ---- Columns and zones */
 
+/* (places, of zones alone: that of each in the list that was given) */
 typedef struct {
     size_t count;
+    uint32_t *places;
     H3Index cells[];
 } Zones;
 
@@ -449,6 +451,14 @@ FILL_AT(cellsToChildrenSizes, int64_t)
 FILL_AT(cellsToChildPositions, int64_t)
 FILL_OVER(cellsToZones, H3Index)
 FILL_OVER(areCoveredCells, int)
+static H3Error cellsToZonesPlaces(const Over *over, const H3Index *cells, size_t n, void *out, size_t *at) {
+    const Zones *zones = over->zones;
+    if (!over->table)
+        return h3w_cellsToZonesPlaces(zones->cells, zones->count, zones->places, zones->count, cells, n, (int64_t *)out,
+                                      n, at);
+    return h3w_cellsToZonesPlacesByTable(zones->cells, zones->count, zones->places, zones->count, cells, n, over->table,
+                                         over->room, (int64_t *)out, n, at);
+}
 
 /* The functions over columns, by the numbers of Native, and of how many bytes their results are. */
 static const struct {
@@ -463,6 +473,7 @@ static const struct {
     {cellsToCenterChildren, sizeof(jlong), 1},  {cellsToChildrenSizes, sizeof(jlong), 1},
     {cellsToChildPositions, sizeof(jlong), 1},  {cellsToZones, sizeof(jlong), 0},
     {areCoveredCells, sizeof(jboolean), 0},     {cellsToLastChildren, sizeof(jlong), 1},
+    {cellsToZonesPlaces, sizeof(jint), 0},
 };
 
 /* (-1, at the place of an error, is false) */
@@ -537,15 +548,32 @@ METHOD(jlong, fillColumn)(JNIEnv *env, jclass own, jint function, jlongArray cel
     return at_place(first, place);
 }
 
-/* The address of the cells as zones, or 0, with the error in status[0]. It is for freeZones. */
-METHOD(jlong, zones)(JNIEnv *env, jclass own, jlongArray cells, jlongArray status) {
+/* Prepares cells, with the place of each. */
+static H3Error prepare_places(const List *given, Zones *zones) {
+    uint32_t *numbers = places(given->n, sizeof *numbers);
+    size_t i;
+    H3Error error;
+    if (!numbers) return E_MEMORY_ALLOC;
+    for (i = 0; i < given->n; i++) numbers[i] = (uint32_t)i;
+    zones->places = (uint32_t *)(zones->cells + given->n);
+    error = h3w_areas(given->cells, given->n, numbers, given->n, zones->cells, given->n, zones->places, given->n,
+                      &zones->count);
+    free(numbers);
+    return error;
+}
+
+/* The address of the cells as zones, with the place of each or without, or 0, with the error in status[0]. It is for
+ * freeZones. */
+METHOD(jlong, zones)(JNIEnv *env, jclass own, jlongArray cells, jboolean has_places, jlongArray status) {
     List given;
     Zones *zones = NULL;
     H3Error error = copy(env, cells, &given);
+    size_t width = sizeof *zones->cells + (has_places ? sizeof *zones->places : 0);
     (void)own;
-    if (!error) zones = malloc(sizeof *zones + (given.n + 1) * sizeof *zones->cells);
+    if (!error) zones = malloc(sizeof *zones + (given.n + 1) * width);
     if (!error && !zones) error = E_MEMORY_ALLOC;
-    if (!error) {
+    if (!error && has_places) error = prepare_places(&given, zones);
+    else if (!error) {
         zones->count = given.n;
         error = h3w_zones(given.cells, given.n, zones->cells, given.n);
     }
@@ -630,6 +658,17 @@ static void store_truths(JNIEnv *env, jarray out, jsize start, jsize count, void
     }
 }
 
+/* (a place is below 2^31, as Java's arrays are no longer) */
+static void store_ints(JNIEnv *env, jarray out, jsize start, jsize count, void *found) {
+    jint ints[PIECE];
+    jsize done, part, i;
+    for (done = 0; done < count && !is_pending(env); done += part) {
+        part = count - done < PIECE ? count - done : PIECE;
+        for (i = 0; i < part; i++) ints[i] = (jint)((const int64_t *)found)[done + i];
+        (*env)->SetIntArrayRegion(env, out, start + done, part, ints);
+    }
+}
+
 static jlong fill_pieces(JNIEnv *env, jint function, const Over *over, jlongArray cells, jarray out,
                          const Pieces *pieces) {
     jsize n = (*env)->GetArrayLength(env, cells), start, count;
@@ -642,6 +681,7 @@ static jlong fill_pieces(JNIEnv *env, jint function, const Over *over, jlongArra
         error = columns[function].fill(over, pieces->cells, (size_t)count, pieces->out, &at);
         if (error && !first) first = error, place = (size_t)start + at;
         if (columns[function].width == sizeof(jlong)) store_longs(env, out, start, count, pieces->out);
+        else if (columns[function].width == sizeof(jint)) store_ints(env, out, start, count, pieces->out);
         else store_truths(env, out, start, count, pieces->out);
         if (is_pending(env)) break;
     }

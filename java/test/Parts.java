@@ -93,6 +93,8 @@ final class Parts {
         Counts counts = zones.count(new long[] {cell, parent, cell});
         BaseCellTable table = new BaseCellTable(Rows.plainTable());
         Check.same("zones", read(written(zones)), zones);
+        Check.same("places", ((Zones) read(written(zones))).placesOf(new long[] {cell, parent, 0x8009fffffffffffL}),
+                new int[] {0, -1, 1});
         Check.same("zones count", ((Zones) read(written(zones))).count(new long[] {cell, parent, cell}), counts);
         Check.same("a region", read(written(region)), region);
         Check.same("counts", read(written(counts)), counts);

@@ -294,6 +294,9 @@ final class Rows {
         Check.same("zones of", zones.zonesOf(points), new long[] {INDEX, INDEX, 0, INDEX});
         Check.same("zone of", zones.zoneOf(points[1]), INDEX);
         Check.same("zone of", zones.zoneOf(PARENT), 0L);
+        Check.same("places of", zones.placesOf(points), new int[] {0, 0, -1, 0});
+        Check.same("place of", zones.placeOf(PENTAGON), 1);
+        Check.same("place of", zones.placeOf(PARENT), -1);
         Check.same("covers", zones.covers(PARENT), false);
         Check.same("covers", zones.covers(points), new boolean[] {true, true, false, true});
         Counts counts = zones.count(points);
@@ -309,6 +312,12 @@ final class Rows {
         Check.refused("error 5: E_CELL_INVALID: 81087ffffffffff at place 1", () -> zones.count(mixed));
         Check.refused("error 5: E_CELL_INVALID: 81087ffffffffff at place 1", () -> zones.zonesOf(mixed));
         Check.refused("error 5: E_CELL_INVALID: 81087ffffffffff", () -> zones.zoneOf(NONE));
+        Check.refused("error 5: E_CELL_INVALID: 81087ffffffffff", () -> zones.placeOf(NONE));
+        Check.refused("error 5: E_CELL_INVALID: 81087ffffffffff at place 1", () -> zones.placesOf(mixed));
+        Check.refused("error 14: E_MEMORY_BOUNDS: room for 1 of 4", () -> zones.placesOf(points, new int[1]));
+        int[] placed = new int[mixed.length];
+        Check.same("places not valid", zones.placesOf(mixed, placed), BitSet.valueOf(new long[] {10}));
+        Check.same("no place", placed[1], -1);
         Check.same("refused", zones.countValid(mixed).toString(),
                 "{" + PENTAGON + "=0, " + INDEX + "=1}, others 1, refused 2");
         Check.same("in place", zones.zonesOf(mixed, mixed), BitSet.valueOf(new long[] {10}));

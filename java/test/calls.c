@@ -213,6 +213,10 @@ static jlong covered(void) {
     memset(&out.items, 0, sizeof out.items), out.length = LONG;
     return sum(N(fillByZones)(env, NULL, 12, zones_address, object_of(&column), object_of(&out)), &out);
 }
+static jlong placed(void) {
+    memset(&out.items, 0, sizeof out.items), out.length = LONG;
+    return sum(N(fillByZones)(env, NULL, 14, zones_address, object_of(&column), object_of(&out)), &out);
+}
 static jlong counted_by(void) {
     jlong first;
     out.length = (jsize)zones_at(zones_address)->count + 1;
@@ -220,12 +224,14 @@ static jlong counted_by(void) {
     return first >> 32 ? -(first >> 32) : sum(first, &out);
 }
 static jlong ordered(void) { return listed(N(zonesInOrder)(env, NULL, zones_address, STATUS)); }
-static jlong prepared(void) {
-    jlong zones = N(zones)(env, NULL, object_of(&cells), STATUS);
+static jlong prepare(jboolean has_places) {
+    jlong zones = N(zones)(env, NULL, object_of(&cells), has_places, STATUS);
     jlong count = zones ? (jlong)zones_at(zones)->count : -status.items.longs[0];
     if (zones) N(freeZones)(env, NULL, zones);
     return count;
 }
+static jlong prepared(void) { return prepare(JNI_FALSE); }
+static jlong prepared_with_places(void) { return prepare(JNI_TRUE); }
 static jlong read_table(void) {
     static Array other;
     other.length = 1465, status.length = 3;
@@ -282,7 +288,7 @@ static void make_lists(void) {
     text.length = 1, text.items.longs[0] = 0x8f2834700000000;
     column.length = LONG;
     for (i = 0; i < LONG; i++) column.items.longs[i] = cells.items.longs[i * 5 % 343];
-    zones_address = N(zones)(env, NULL, object_of(&cells), STATUS);
+    zones_address = N(zones)(env, NULL, object_of(&cells), JNI_TRUE, STATUS);
     CHECK(zones_address != 0);
 }
 
@@ -298,7 +304,8 @@ static void try_columns(void) {
         try_each("longs", longs), try_each("ints", ints), try_each("truths", truths);
     lends_copies = JNI_FALSE;
     try_each("cellsToZones", zoned), try_each("areCoveredCells", covered), try_each("countCellsInZones", counted_by);
-    try_each("zonesInOrder", ordered), try_each("zones", prepared);
+    try_each("zonesInOrder", ordered), try_each("zones", prepared), try_each("places", prepared_with_places);
+    try_each("cellsToZonesPlaces", placed);
     column.items.longs[4000] = column.items.longs[5] = 5;
     out.length = LONG;
     CHECK(N(fillColumn)(env, NULL, 7, object_of(&column), 2, object_of(&out)) == ((jlong)E_CELL_INVALID << 32 | 5));

@@ -16,7 +16,7 @@ from ._arguments import indexes_of as _indexes_of
 from .errors import *  # noqa: F401,F403 (the exceptions are part of this module)
 from .errors import H3FailedError
 from .int import int_to_str, str_to_int
-from .regions import CellRegion, CellSet, CellZones, Counts
+from .regions import CellRegion, CellSet, CellZones, Counts, Totals
 from .table import Table, TableError, over_table, use_table
 
 __version__ = "1.3.0"
@@ -26,6 +26,7 @@ __all__ = [
     "Region",
     "Table",
     "TableError",
+    "Totals",
     "Zones",
     "use_table",
     "are_neighbor_cells",
@@ -756,6 +757,8 @@ class Zones(_Texts, CellZones[str]):
     ----------
     cells : iterable of str, column, region or zones, optional
         The cells, of any resolutions; by default none.
+    names : iterable, optional
+        A name for each cell. Many cells may have one name; these may repeat and overlap.
 
     Raises
     ------
@@ -766,7 +769,9 @@ class Zones(_Texts, CellZones[str]):
     H3CellInvalidError
         If one is not a valid cell.
     H3DuplicateInputError
-        If two overlap: a cell is given twice, or with an ancestor of it.
+        If two overlap: a cell is given twice, or with an ancestor of it; with names, if two of different names do.
+    ValueError
+        If there are not as many names as cells, or a name is None or NaN.
 
     Examples
     --------
@@ -776,6 +781,11 @@ class Zones(_Texts, CellZones[str]):
     >>> counts = zones.count(["862834707ffffff", "8428347ffffffff"])
     >>> counts["85283473fffffff"], counts.others
     (1, 1)
+    >>> named = Zones(["85283473fffffff", "8009fffffffffff"], names=["north", "far"])
+    >>> named.names_of(["862834707ffffff", "8428347ffffffff"])
+    ['north', None]
+    >>> named.count(["862834707ffffff"], weights=[5])["north"]
+    5
     """
 
     __slots__ = ()

@@ -375,13 +375,19 @@ def _numbers_of(column: Any, missing: bool) -> Tuple[Any, "array[int]"]:
     return (_to_int(series, missing, integers) if _is_listed(series) else series), integers
 
 
+def _index_like(column: Any, items: Any) -> Any:
+    """Items as an Index of pandas that has the name of another."""
+    values = items.to_numpy() if _is_series(items) else items
+    # (of objects pandas would guess a type: floats, for integers beside None)
+    return sys.modules["pandas"].Index(values, dtype=values.dtype, name=column.name)
+
+
 def _as_list_of(column: Any, found: Any, integers: "array[int]", are_indexes: bool, missing: bool) -> Any:
     """Results as a list, a column of texts or an Index, as another is one. Indexes have the form of what was given."""
     if _is_pandas_index(column):
         given = column.to_series()
         of_texts = are_indexes and _is_listed(given)
-        items = (_objects_of(given, found, integers) if of_texts else found).to_numpy()
-        return sys.modules["pandas"].Index(items, name=column.name)
+        return _index_like(column, _objects_of(given, found, integers) if of_texts else found)
     if not isinstance(column, (list, tuple)):
         return _objects_of(column, found, integers) if are_indexes else found
     if not are_indexes:
@@ -739,8 +745,7 @@ def _set_of_list(column: Any, function: Callable[[Any], Any]) -> Any:
         raise TypeError("a list is of texts or of integers, and not of both")
     found = function(numbers)
     if _is_pandas_index(column):
-        items = found if integers or not _is_listed(column.to_series()) else int_to_str(found)
-        return sys.modules["pandas"].Index(items.to_numpy(), name=column.name)
+        return _index_like(column, found if integers or not _is_listed(column.to_series()) else int_to_str(found))
     if isinstance(column, (list, tuple)):
         return found.tolist() if integers else int_to_str(found)
     items = found if integers else int_to_str(found)
@@ -924,7 +929,7 @@ def _lists_of_list(column: Any, find: Callable[..., Tuple[Any, Any]], missing: b
     numbers, integers = _numbers_of(column, missing)
     found, starts = _lists_of(numbers, find, missing)
     if _is_pandas_index(column) and not _is_listed(column.to_series()):
-        return sys.modules["pandas"].Index(found.to_numpy(), name=column.name), starts
+        return _index_like(column, found), starts
     if isinstance(column, (list, tuple)):
         return _in_their_form(int_to_str(found), found, starts, integers), starts.tolist()
     texts = int_to_str(found)
@@ -932,7 +937,7 @@ def _lists_of_list(column: Any, find: Callable[..., Tuple[Any, Any]], missing: b
         return _in_their_form(texts.astype(object), found, starts, integers), starts
     items = _in_their_form(texts.to_numpy(dtype=object, copy=True), found.to_numpy(), starts, integers)
     if _is_pandas_index(column):
-        return sys.modules["pandas"].Index(items, name=column.name), starts
+        return _index_like(column, items), starts
     return type(found)(items, index=found.index, name=found.name, dtype=object), starts
 
 
@@ -1169,8 +1174,7 @@ def str_to_int(column: Any, *, missing: bool = False) -> Any:
         If an integer in a column of objects is not 0 to 2^64 - 1.
     """
     if _is_pandas_index(column):
-        items = str_to_int(column.to_series(), missing=missing).to_numpy()
-        return sys.modules["pandas"].Index(items, name=column.name)
+        return _index_like(column, str_to_int(column.to_series(), missing=missing))
     is_of_objects = _is_listed(column) and not isinstance(column, (list, tuple))
     return _to_int(column, missing, array("q") if is_of_objects else None)
 
@@ -1220,7 +1224,7 @@ def int_to_str(column: Any) -> Any:
     if isinstance(column, (list, tuple)):
         column = indexes_of(as_cell, column)
     if _is_pandas_index(column):
-        return sys.modules["pandas"].Index(int_to_str(column.to_series()).to_numpy(), name=column.name)
+        return _index_like(column, int_to_str(column.to_series()))
     with _Memory(column) as given:
         texts = _write(given)
     if _is_series(column):

@@ -966,6 +966,8 @@ class Zones(_Numbers, CellZones[int]):
     ----------
     cells : iterable of int, column, region or zones, optional
         The cells, of any resolutions; by default none.
+    names : iterable, optional
+        A name for each cell. Many cells may have one name; these may repeat and overlap.
 
     Raises
     ------
@@ -976,7 +978,9 @@ class Zones(_Numbers, CellZones[int]):
     H3CellInvalidError
         If one is not a valid cell.
     H3DuplicateInputError
-        If two overlap: a cell is given twice, or with an ancestor of it.
+        If two overlap: a cell is given twice, or with an ancestor of it; with names, if two of different names do.
+    ValueError
+        If there are not as many names as cells, or a name is None or NaN.
 
     Examples
     --------
@@ -986,6 +990,11 @@ class Zones(_Numbers, CellZones[int]):
     >>> counts = zones.count([0x862834707FFFFFF, 0x8428347FFFFFFFF])
     >>> counts[0x85283473FFFFFFF], counts.others
     (1, 1)
+    >>> named = Zones([0x85283473FFFFFFF, 0x8009FFFFFFFFFFF], names=["north", "far"])
+    >>> named.names_of([0x862834707FFFFFF, 0x8428347FFFFFFFF])
+    ['north', None]
+    >>> named.count([0x862834707FFFFFF], weights=[5])["north"]
+    5
     """
 
     __slots__ = ()

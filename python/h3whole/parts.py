@@ -281,15 +281,13 @@ def count_part(zones: "CellZones[Any]", numbered: Tuple[int, Any]) -> CountedPar
     """
     number, column = numbered
     try:
-        found = zones.count(memoryview(columns._memory_of(column)))
+        found = zones._count(memoryview(columns._memory_of(column)), False)
     except H3BaseException as error:
         raise error_of(error.number or 0, f"part {number}: {error}") from None
     return CountedPart(number, _count(column), found._counts, found.others)
 
 
-def count_cells(
-    zones: "CellZones[_Cell]", parts: Any, run: Callable[..., Iterable[CountedPart]] = map
-) -> "Counts[_Cell]":
+def count_cells(zones: "CellZones[_Cell]", parts: Any, run: Callable[..., Iterable[CountedPart]] = map) -> Any:
     """Count the cells of all parts in each zone, and in none, as `zones.count` does of the parts one after another.
 
     Parameters
@@ -303,8 +301,9 @@ def count_cells(
 
     Returns
     -------
-    Counts
-        The count of each zone, and the number of cells in none.
+    Counts or Totals
+        As of `zones.count`: the count of each zone, or of each name if the zones have names, and the number of cells in
+        none.
 
     Raises
     ------
@@ -321,11 +320,11 @@ def count_cells(
     """
     sent: Dict[int, Optional[int]] = {}
     numbers: Set[int] = set()
-    counts = zones.count(array("Q"))
+    counts = zones._count(array("Q"), False)
     for part in _run(partial(count_part, zones), parts, sent, run):
         _take(part.number, part.given, sent, numbers)
         _compare(f"part {part.number}, zones", len(zones), len(part.counts))
         _compare(f"part {part.number}, cells counted", part.given, sum(part.counts) + part.others)
         counts = counts + Counts(zones, part.counts, part.others, 0)
     _check_all(sent, numbers)
-    return counts
+    return counts if zones._names is None else zones._totals(counts._counts, counts.others, counts.refused)

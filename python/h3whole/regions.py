@@ -29,9 +29,11 @@ from . import _library, columns
 from ._arguments import indexes_of
 from ._library import _array, _number, _size
 from ._memory import room as _room
+from ._names import Totals, names_in, numbered, summed, weights_in
+from ._overlap import areas_overlap_named
 from .errors import H3BaseException, error_of
 
-__all__ = ["CellRegion", "CellSet", "CellZones", "Counts"]
+__all__ = ["CellRegion", "CellSet", "CellZones", "Counts", "Totals"]
 
 _Cell = TypeVar("_Cell", str, int)
 _Region = TypeVar("_Region", bound="CellRegion[Any]")
@@ -56,6 +58,13 @@ _are_covered_cells = (
     _library.number("areCoveredCells", *_over_zones),
     _library.number("areCoveredCellsByTable", *_with_table),
     _library.number("areCoveredCellsInTable", *_with_table),
+)
+_over_places = (_array, _size, _array, _size, _array, _size)
+_areas = _library.number("areas", _array, _size, _array, _size, _array, _size, _array, _size, ctypes.POINTER(_size))
+_cells_to_places = (
+    _library.number("cellsToZonesPlaces", *_over_places, *_over_zones[4:]),
+    _library.number("cellsToZonesPlacesByTable", *_over_places, *_with_table[4:]),
+    _library.number("cellsToZonesPlacesInTable", *_over_places, *_with_table[4:]),
 )
 _counted = (_array, _size, ctypes.POINTER(_number), ctypes.POINTER(_size))
 _count_cells_in_zones = (
@@ -101,11 +110,6 @@ def _as_series(column: Any) -> Any:
     return column.to_series() if columns._is_pandas_index(column) else column
 
 
-def _as_index(column: Any, items: Any) -> Any:
-    """Items for an Index of pandas, as an Index."""
-    return sys.modules["pandas"].Index(items.to_numpy(), name=column.name)
-
-
 def _is_of_objects(column: Any) -> bool:
     """Whether a column is of texts, or of objects, which may be texts and integers."""
     return getattr(getattr(column, "dtype", None), "kind", "") in ("O", "S", "U")
@@ -142,6 +146,23 @@ def _prepared(cells: Any) -> "array[int]":
         if number:
             raise error_of(number, columns._refused_cell(number, given))
     return out
+
+
+def _prepared_areas(cells: Any, names: List[Any]) -> "Tuple[array[int], array[int], List[Any]]":
+    """The outermost cells of areas, in the order in which the library looks cells up, the number of each one's name,
+    and the names."""
+    known, given_numbers = numbered(names)
+    with columns._Memory(cells) as given:
+        if given.count != len(names):
+            raise ValueError(f"there are {len(names)} names for {given.count} cells")
+        zones, numbers, found = _room("Q", given.count), _room("I", given.count), _size()
+        rest = _at(given_numbers) + _at(zones) + _at(numbers) + (ctypes.byref(found),)
+        number = _areas(given.address, given.count, *rest)
+        if number == 10:
+            raise error_of(number, areas_overlap_named(given.copied(), names))
+        if number:
+            raise error_of(number, columns._refused_cell(number, given))
+    return zones[: found.value], numbers[: found.value], known
 
 
 class CellSet(Generic[_Cell]):
@@ -262,24 +283,35 @@ class CellSet(Generic[_Cell]):
                 return table
         return self._table
 
-    def _look_up(self, functions: _Lookup, address: int, count: int, *rest: Any) -> int:
-        """The error of a function over zones for so many cells. A table that the call writes is faster to look up in
-        than one that is kept, so it pays for as many cells as there are zones, or more."""
+    def _look_up(
+        self, functions: _Lookup, address: int, count: int, *rest: Any, beside: "Optional[array[int]]" = None
+    ) -> int:
+        """The error of a function over zones, and numbers beside them, for so many cells. A table that the call writes
+        is faster to look up in than one that is kept, so it pays for as many cells as there are zones, or more."""
         zones = self._looked_up()
+        over = _at(zones) if beside is None else _at(zones) + _at(beside)
         plain, by_table, in_table = functions
         own = _room_of_table(zones) if count >= len(zones) > 1 else None
         if own is not None:
-            return by_table(*_at(zones), address, count, *_at(own), *rest)
+            return by_table(*over, address, count, *_at(own), *rest)
         table = self._tabled(zones, count)
         if table is None:
-            return plain(*_at(zones), address, count, *rest)
-        return in_table(*_at(zones), address, count, *_at(table), *rest)
+            return plain(*over, address, count, *rest)
+        return in_table(*over, address, count, *_at(table), *rest)
 
-    def _fill(self, functions: _Lookup, numbers: Any, typecode: str, missing: bool, is_truth: bool) -> Any:
+    def _fill(
+        self,
+        functions: _Lookup,
+        numbers: Any,
+        typecode: str,
+        missing: bool,
+        is_truth: bool,
+        beside: "Optional[array[int]]" = None,
+    ) -> Any:
         """What a function over zones writes for a column."""
 
         def over_zones(*given: Any) -> int:
-            return self._look_up(functions, *given)
+            return self._look_up(functions, *given, beside=beside)
 
         if columns._is_arrow(numbers):
             return columns._fill_arrow(over_zones, numbers, typecode, missing, is_truth=is_truth)
@@ -622,7 +654,7 @@ class CellRegion(CellSet[_Cell]):
         """
         found = self._fill(_are_covered_cells, self._numbers_of(cells, missing), "i", missing, True)
         if columns._is_pandas_index(cells):
-            return _as_index(cells, found)
+            return columns._index_like(cells, found)
         return found if _is_column(cells) else list(map(bool, found))
 
 
@@ -633,6 +665,9 @@ class CellZones(CellSet[_Cell]):
     ----------
     cells : iterable of cells, column, region or zones, optional
         The cells, of any resolutions; by default none.
+    names : iterable, optional
+        A name for each cell, of any type that a dict takes as a key. The cells with one name are an area. They may
+        repeat, and overlap: those below others of the same area are left out.
 
     Raises
     ------
@@ -643,21 +678,55 @@ class CellZones(CellSet[_Cell]):
     H3CellInvalidError
         If one is not a valid cell.
     H3DuplicateInputError
-        If two overlap: a cell is given twice, or with an ancestor of it.
+        If two overlap: a cell is given twice, or with an ancestor of it; with names, if two of different names do.
+    ValueError
+        If there are not as many names as cells, or a name is None or NaN.
 
     Notes
     -----
     Each cell is in one zone at most: the one that is the cell or an ancestor of it. Iteration returns the zones,
-    ascending, and `len` counts them; `in` says whether a cell is one of them.
+    ascending, and `len` counts them; `in` says whether a cell is one of them. Zones are equal if they have the same
+    cells, with the same names.
     """
 
-    __slots__ = ("_sorted",)
+    __slots__ = ("_names", "_numbers", "_sorted")
 
     _sorted: "Optional[array[int]]"
+    # each name once, and the number of the name of each cell of `_order`
+    _names: Optional[List[Any]]
+    _numbers: "Optional[array[int]]"
 
-    def __init__(self, cells: _Cells[_Cell] = ()) -> None:
-        super().__init__(_prepared(self._column_of(cells)))
-        self._sorted = None
+    def __init__(self, cells: _Cells[_Cell] = (), names: Optional[Iterable[Any]] = None) -> None:
+        self._names = self._numbers = self._sorted = None
+        if names is None:
+            super().__init__(_prepared(self._column_of(cells)))
+            return
+        order, self._numbers, self._names = _prepared_areas(self._column_of(cells), names_in(names))
+        super().__init__(order)
+
+    def _by_name(self) -> List[Tuple[int, int]]:
+        """The number of the name of each cell, and the cell, ascending."""
+        return sorted(zip(self._numbers or (), self._order or ()))
+
+    def __reduce__(self) -> Tuple[Any, ...]:
+        if self._names is None:
+            return super().__reduce__()
+        named = self._by_name()
+        cells = array("Q", (cell for _, cell in named))
+        return type(self), (cells, [self._names[number] for number, _ in named])
+
+    def __eq__(self, other: object) -> bool:
+        same = super().__eq__(other)
+        if same is not True or not isinstance(other, CellZones):
+            return same
+        return (self._names, self._by_name()) == (other._names, other._by_name())
+
+    __hash__ = CellSet.__hash__
+
+    @property
+    def names(self) -> Optional[List[Any]]:
+        """The names, each once, in the order in which they were first given; None for zones without names."""
+        return None if self._names is None else self._names[:]
 
     def _ascending(self) -> "array[int]":
         if self._sorted is None:
@@ -738,7 +807,7 @@ class CellZones(CellSet[_Cell]):
             If one is not a valid cell.
         """
         if columns._is_pandas_index(cells):
-            return _as_index(cells, self.of(_as_series(cells), missing=missing))
+            return columns._index_like(cells, self.of(_as_series(cells), missing=missing))
         integers = array("q")
         numbers = self._numbers_of(cells, missing, integers)
         found = self._fill(_cells_to_zones, numbers, columns._INDEXES, missing, False)
@@ -746,21 +815,60 @@ class CellZones(CellSet[_Cell]):
             return self._forms_or_none(found)
         return columns._objects_of(cells, found, integers) if _is_of_objects(cells) else found
 
-    def count(self, cells: _Cells[_Cell], *, missing: bool = False) -> "Counts[_Cell]":
-        """Count the cells in each zone, and in none.
+    def names_of(self, cells: _Cells[_Cell], *, none: Any = None, missing: bool = False) -> Any:
+        """Return the name of the zone of each cell.
 
         Parameters
         ----------
         cells : column, iterable of cells, region or zones
             The cells.
+        none : optional
+            What is returned for a cell without a zone.
+        missing : bool, optional
+            Take what is not a valid cell as a cell without a zone, and raise nothing for it.
+
+        Returns
+        -------
+        Series, Index or numpy array of objects, or list
+            The names: for a Series a Series with the same index, for an Index an Index, for a numpy array one of the
+            same shape, and else a list. A null in Arrow's memory has no zone.
+
+        Raises
+        ------
+        H3FailedError
+            If a text does not parse as an index.
+        H3CellInvalidError
+            If one is not a valid cell.
+        ValueError
+            If the zones have no names.
+        """
+        if self._names is None or self._numbers is None:
+            raise ValueError("these zones have no names: Zones(cells, names=names) has them")
+        if columns._is_pandas_index(cells):
+            return columns._index_like(cells, self.names_of(_as_series(cells), none=none, missing=missing))
+        numbers = self._numbers_of(cells, missing)
+        places = self._fill(_cells_to_places, numbers, "q", missing, False, self._numbers)
+        return _named_by(self._names, none, places, cells)
+
+    def count(self, cells: _Cells[_Cell], *, weights: Any = None, missing: bool = False) -> Any:
+        """Count the cells in each zone, and in none; or with each name; or add up their weights.
+
+        Parameters
+        ----------
+        cells : column, iterable of cells, region or zones
+            The cells.
+        weights : iterable or column, optional
+            A number for each cell: integers, also of numpy, `Decimal` or `Fraction`. They are added up exactly, so
+            floats are refused.
         missing : bool, optional
             Count what is not a valid cell by itself, as `Counts.refused`, and raise nothing for it.
 
         Returns
         -------
-        Counts
-            The count of each zone, and the number of cells in none. They do not depend on how a column is cut: the
-            counts of its parts add up to these.
+        Counts or Totals
+            The count of each zone, and the number of cells in none, as Counts. They do not depend on how a column is
+            cut: the counts of its parts add up to these. Totals, if the zones have names, of each name; with weights,
+            the sums in place of the numbers of cells.
 
         Raises
         ------
@@ -770,10 +878,45 @@ class CellZones(CellSet[_Cell]):
             If there is no memory for the counts.
         H3CellInvalidError
             If one is not a valid cell. A null in a column in Arrow's memory is not one.
+        TypeError
+            If a weight is a float, or not a number.
+        ValueError
+            If there are not as many weights as cells.
         """
         if columns._is_arrow(cells):
-            return self._count(columns._cells_of_arrow(cells, missing), missing)
-        return self._count(self._numbers_of(cells, missing), missing)
+            numbers = columns._cells_of_arrow(cells, missing)
+        else:
+            numbers = self._numbers_of(cells, missing)
+        if weights is not None:
+            return self._weighed(numbers, weights, missing)
+        counts = self._count(numbers, missing)
+        return counts if self._names is None else self._totals(counts._counts, counts.others, counts.refused)
+
+    def _totals(self, by_zone: Iterable[int], others: int, refused: int) -> "Totals[Any]":
+        """The totals of names, of the counts of zones."""
+        names = self._names or []
+        totals = [0] * len(names)
+        for number, count in zip(self._numbers or (), by_zone):
+            totals[number] += count
+        return Totals(names, totals, others, refused)
+
+    def _weighed(self, numbers: Any, weights: Any, missing: bool) -> "Totals[Any]":
+        """The sums of weights: by name, or by zone if there are no names."""
+        order = self._order or array("Q")
+        beside = array("I", range(len(order))) if self._numbers is None else self._numbers
+        size = len(order) if self._names is None else len(self._names)
+        with columns._Memory(numbers) as given:
+            cells = memoryview(given.copied())
+        exact = weights_in(weights, len(cells))
+        places = self._fill(_cells_to_places, cells, "q", missing, False, beside)
+        sums = summed(exact, _groups_of(places, columns.are_valid_cells(cells), size), size + 2)
+        others, refused = sums[size:]
+        if self._names is not None:
+            return Totals(self._names, sums, others, refused)
+        by_cell = dict(zip(order, sums))
+        ascending = self._ascending()
+        values = [by_cell[cell] for cell in ascending]
+        return Totals(list(map(self._form_of, ascending)), values, others, refused)
 
     def _count(self, numbers: Any, missing: bool) -> "Counts[_Cell]":
         counts, others, place = _room("q", len(self)), _number(), _size()
@@ -787,6 +930,31 @@ class CellZones(CellSet[_Cell]):
             return Counts(self, counts, others.value, 0)
         found = self._count(kept, False)
         return Counts(self, found._counts, found.others, given.count - len(kept))
+
+
+def _named_by(names: List[Any], none: Any, places: Any, column: Any) -> Any:
+    """The names at places, in the kind of a column of numpy or pandas, else as a list; `none` at -1 and at None."""
+    if not columns._has_numpy(column):
+        return [none if place is None or place < 0 else names[place] for place in places]
+    numpy = sys.modules["numpy"]
+    known = numpy.empty(len(names) + 1, dtype=object)
+    # (one by one: a name may be a tuple. At -1 is the last one)
+    for place, name in enumerate(names + [none]):
+        known[place] = name
+    found = known[numpy.asarray(places).ravel()]
+    if not columns._is_series(column):
+        return found.reshape(column.shape)
+    return type(column)(found, index=column.index, name=column.name, dtype=object)
+
+
+def _groups_of(places: Any, are_valid: Any, size: int) -> Any:
+    """The groups of cells by which weights are added up: the number of each one's zone, `size` without one, and one
+    more for what is not a valid cell."""
+    numpy = sys.modules.get("numpy")
+    if numpy is None or len(places) == 0:
+        return [place if place >= 0 else size + (not is_valid) for place, is_valid in zip(places, are_valid)]
+    found, valid = numpy.frombuffer(places, dtype="int64"), numpy.frombuffer(are_valid, dtype="int8")
+    return numpy.where(found >= 0, found, numpy.where(valid > 0, size, size + 1))
 
 
 def _cells_among(given: Any) -> Any:

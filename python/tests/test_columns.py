@@ -345,6 +345,11 @@ class Kinds(unittest.TestCase):
         self.assertEqual(columns.int_to_str(index).tolist(), [f"{cell:x}" for cell in given])
         self.assertEqual(columns.compact_cells(index[:1]).tolist(), given[:1])
         self.assertTrue(columns.are_valid_cells(index).all())
+        # (of integers beside None pandas would make floats)
+        index = pandas.Index([0x862834707FFFFFF, None], dtype=object)
+        found, series = (columns.cells_to_parents(of, 5, missing=True) for of in (index, pandas.Series(index)))
+        self.assertEqual((found.dtype, found.tolist()), (object, series.tolist()))
+        self.assertEqual(found[0], 0x85283473FFFFFFF)
 
     def test_truths(self):
         """A truth is 1 or 0 in a byte, of what is refused 0."""

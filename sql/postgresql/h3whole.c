@@ -23,6 +23,7 @@
 #include "utils/lsyscache.h"
 #include "utils/memutils.h"
 #include "utils/syscache.h"
+#include "utils/tuplestore.h"
 #include "utils/typcache.h"
 #if PG_VERSION_NUM >= 160000
 #include "varatt.h"
@@ -988,25 +989,36 @@ static Node *preparing(Node *array, Oid prepare, Oid type)
 /* The call of a lookup over what a subquery prepares; NULL if the array is none. */
 static Node *simplified(PlannerInfo *root, FuncExpr *call)
 {
+	static const char *const names[][3] = {
+		{"h3_is_covered", "h3_prepare_region", "h3_prepared_covers"},
+		{"h3_zone_of", "h3_prepare_zones", "h3_prepared_zone_of"},
+		{"h3_place_of", "h3_prepare_places", "h3_prepared_place_of"},
+		{"h3_zones_of", "h3_prepare_overlapping", "h3_prepared_zones_of"},
+	};
 	char *name = get_func_name(call->funcid);
-	bool is_region = name && strcmp(name, "h3_is_covered") == 0;
 	Node *array = lsecond(call->args);
 	Oid types[2] = {exprType(linitial(call->args)), exprType(array)};
 	Oid prepare;
 	Oid look_up;
+	size_t which = 0;
+	FuncExpr *simpler;
 
-	if (!root || !is_own_subquery(root, array) || !may_execute(call->funcid))
+	while (name && which < lengthof(names) && strcmp(name, names[which][0]) != 0)
+		which++;
+	if (!root || !name || which == lengthof(names) || !is_own_subquery(root, array) || !may_execute(call->funcid))
 		return NULL;
-	prepare = sibling(call->funcid, is_region ? "h3_prepare_region" : "h3_prepare_zones", 1, types + 1);
+	prepare = sibling(call->funcid, names[which][1], 1, types + 1);
 	if (!OidIsValid(prepare))
 		return NULL;
 	types[1] = get_func_rettype(prepare);
-	look_up = sibling(call->funcid, is_region ? "h3_prepared_covers" : "h3_prepared_zone_of", 2, types);
+	look_up = sibling(call->funcid, names[which][2], 2, types);
 	if (!OidIsValid(look_up))
 		return NULL;
-	return (Node *) makeFuncExpr(look_up, call->funcresulttype,
-								 list_make2(linitial(call->args), preparing(array, prepare, types[1])), InvalidOid,
-								 InvalidOid, COERCE_EXPLICIT_CALL);
+	simpler = makeFuncExpr(look_up, call->funcresulttype,
+						   list_make2(linitial(call->args), preparing(array, prepare, types[1])), InvalidOid,
+						   InvalidOid, COERCE_EXPLICIT_CALL);
+	simpler->funcretset = call->funcretset;
+	return (Node *) simpler;
 }
 
 /* Whether a node is a call whose second argument is a known array. */
@@ -1280,30 +1292,41 @@ static void release(Prepared *prepared)
 }
 
 /* A list prepared, in the current memory. */
-static h3sql_List zones_of(const h3sql_List *cells, bool is_region)
+static h3sql_List zones_of(const h3sql_List *cells, h3sql_Kind kind, int32 first)
 {
 	h3sql_List zones;
 
 	CHECK_FOR_INTERRUPTS();
-	check_list(h3sql_prepare(&zones, cells, is_region, resize, CurrentMemoryContext), cells->cells, cells->count, 0);
+	check_list(h3sql_prepare(&zones, cells, kind, first, resize, CurrentMemoryContext), cells->cells, cells->count, 0);
 	return zones;
+}
+
+/* The subscript of the first item of an array, where places are asked for: of one dimension, as for array_position. */
+static int32 first_of(ArrayType *array, h3sql_Kind kind)
+{
+	if (kind != H3SQL_PLACES || ARR_NDIM(array) == 0)
+		return 1;
+	if (ARR_NDIM(array) > 1)
+		ereport(ERROR, (errcode(ERRCODE_FEATURE_NOT_SUPPORTED), errmsg("places in a multidimensional array")));
+	return ARR_LBOUND(array)[0];
 }
 
 /* Prepares an array, and keeps it. What it takes on the way is of the row's memory, and only the result stays, so that
  * an error leaves nothing behind. */
-static Prepared *prepare(Lookup *lookup, struct varlena *given, uint64_t hash, bool is_region, MemoryContext memory)
+static Prepared *prepare(Lookup *lookup, struct varlena *given, uint64_t hash, h3sql_Kind kind, MemoryContext memory)
 {
 	ArrayType *array = DatumGetArrayTypeP(PointerGetDatum(given));
 	h3sql_List cells = cells_of(array);
-	h3sql_List zones = zones_of(&cells, is_region);
+	h3sql_List zones = zones_of(&cells, kind, first_of(array, kind));
+	size_t size = h3sql_prepared_size(kind, zones.count);
 	Prepared *made = MemoryContextAllocZero(memory, sizeof *made);
 	h3sql_Kept *old;
 
 	made->given = MemoryContextAllocHuge(memory, VARSIZE_ANY(given));
 	memcpy(made->given, given, VARSIZE_ANY(given));
 	made->zones.count = zones.count;
-	made->zones.cells = MemoryContextAllocHuge(memory, (zones.count + 1) * sizeof(H3Index));
-	memcpy(made->zones.cells, zones.cells, zones.count * sizeof(H3Index));
+	made->zones.cells = MemoryContextAllocHuge(memory, size + sizeof(H3Index));
+	memcpy(made->zones.cells, zones.cells, size);
 	pfree(zones.cells);
 	made->kept.hash = hash;
 	h3sql_keep(&lookup->cache, &made->kept, cells.count, resize, memory);
@@ -1330,7 +1353,7 @@ static Lookup *lookup_of(FunctionCallInfo fcinfo)
 }
 
 /* What is prepared of the array of the second argument. */
-static const h3sql_List *prepared_of(FunctionCallInfo fcinfo, bool is_region)
+static const h3sql_List *prepared_of(FunctionCallInfo fcinfo, h3sql_Kind kind)
 {
 	Lookup *lookup = lookup_of(fcinfo);
 	struct varlena *given;
@@ -1344,7 +1367,7 @@ static const h3sql_List *prepared_of(FunctionCallInfo fcinfo, bool is_region)
 		hash = h3sql_hash(given, VARSIZE_ANY(given));
 		lookup->last = find(lookup, given, hash);
 		if (!lookup->last)
-			prepare(lookup, given, hash, is_region, fcinfo->flinfo->fn_mcxt);
+			prepare(lookup, given, hash, kind, fcinfo->flinfo->fn_mcxt);
 	}
 	return &lookup->last->zones;
 }
@@ -1369,13 +1392,75 @@ static Datum zone_or_null(FunctionCallInfo fcinfo, H3Index zone)
 PG_FUNCTION_INFO_V1(h3whole_is_covered);
 Datum h3whole_is_covered(PG_FUNCTION_ARGS)
 {
-	PG_RETURN_BOOL(looked_up(fcinfo, prepared_of(fcinfo, true)) != H3_NULL);
+	PG_RETURN_BOOL(looked_up(fcinfo, prepared_of(fcinfo, H3SQL_REGION)) != H3_NULL);
 }
 
 PG_FUNCTION_INFO_V1(h3whole_zone_of);
 Datum h3whole_zone_of(PG_FUNCTION_ARGS)
 {
-	return zone_or_null(fcinfo, looked_up(fcinfo, prepared_of(fcinfo, false)));
+	return zone_or_null(fcinfo, looked_up(fcinfo, prepared_of(fcinfo, H3SQL_ZONES)));
+}
+
+/* Returns the place of the zone of the cell of the first argument, or NULL. */
+static Datum place_or_null(FunctionCallInfo fcinfo, const h3sql_List *zones)
+{
+	int32_t place = 0;
+	bool found = false;
+
+	check(h3sql_place_of(zones, GET_INDEX(0), &found, &place), GET_INDEX(0));
+	if (!found)
+		PG_RETURN_NULL();
+	PG_RETURN_INT32(place);
+}
+
+PG_FUNCTION_INFO_V1(h3whole_place_of);
+Datum h3whole_place_of(PG_FUNCTION_ARGS)
+{
+	return place_or_null(fcinfo, prepared_of(fcinfo, H3SQL_PLACES));
+}
+
+/* The rows of a set that are returned at once: what a call has prepared stays in fn_extra, which a set that returns a
+ * row a call needs for itself. */
+static Tuplestorestate *all_rows(FunctionCallInfo fcinfo, TupleDesc *columns)
+{
+	ReturnSetInfo *result = (ReturnSetInfo *) fcinfo->resultinfo;
+	MemoryContext before;
+
+	if (!result || !IsA(result, ReturnSetInfo) || !(result->allowedModes & SFRM_Materialize) || !result->expectedDesc)
+		ereport(ERROR,
+				(errcode(ERRCODE_FEATURE_NOT_SUPPORTED), errmsg("called in a context that cannot accept a set")));
+	before = MemoryContextSwitchTo(result->econtext->ecxt_per_query_memory);
+	*columns = CreateTupleDescCopy(result->expectedDesc);
+	result->returnMode = SFRM_Materialize;
+	result->setDesc = *columns;
+	result->setResult = tuplestore_begin_heap(result->allowedModes & SFRM_Materialize_Random, false, work_mem);
+	MemoryContextSwitchTo(before);
+	return result->setResult;
+}
+
+/* The zones that cover a cell, which may overlap: rows. */
+static Datum rows_of_zones(FunctionCallInfo fcinfo, const h3sql_List *zones)
+{
+	H3Index found[H3SQL_ANCESTORS];
+	size_t count;
+	TupleDesc columns;
+	Tuplestorestate *rows = all_rows(fcinfo, &columns);
+
+	check(h3sql_zones_of(zones, GET_INDEX(0), found, &count), GET_INDEX(0));
+	for (size_t i = 0; i < count; i++)
+	{
+		Datum zone = INDEX_DATUM(found[i]);
+		bool is_null = false;
+
+		tuplestore_putvalues(rows, columns, &zone, &is_null);
+	}
+	PG_RETURN_NULL();
+}
+
+PG_FUNCTION_INFO_V1(h3whole_zones_of);
+Datum h3whole_zones_of(PG_FUNCTION_ARGS)
+{
+	return rows_of_zones(fcinfo, prepared_of(fcinfo, H3SQL_OVERLAPPING));
 }
 
 /* ---- The type h3_prepared: an array that a subquery has prepared. The planner writes calls for it, see
@@ -1384,10 +1469,18 @@ Datum h3whole_zone_of(PG_FUNCTION_ARGS)
 typedef struct
 {
 	int32 header;
-	/* whether it has the array as it was given, which is refused once a cell is looked up in it */
-	int32 is_refused;
+	/* an h3sql_Kind, of a region that of zones; or REFUSED: the array as it was given, which is refused once a cell is
+	 * looked up in it (so is a value that version 1.3 has made) */
+	int32 kind;
 	H3Index cells[FLEXIBLE_ARRAY_MEMBER];
 } PreparedValue;
+
+#define REFUSED 1
+
+static int32 kind_of_value(h3sql_Kind kind)
+{
+	return kind == H3SQL_REGION ? H3SQL_ZONES : kind;
+}
 
 PG_FUNCTION_INFO_V1(h3whole_prepared_in);
 Datum h3whole_prepared_in(PG_FUNCTION_ARGS)
@@ -1399,7 +1492,9 @@ Datum h3whole_prepared_in(PG_FUNCTION_ARGS)
 /* How many cells a prepared value has. */
 static size_t count_of_value(const PreparedValue *value)
 {
-	return (VARSIZE(value) - offsetof(PreparedValue, cells)) / sizeof(H3Index);
+	if (value->kind == REFUSED)
+		return 0;
+	return (VARSIZE(value) - offsetof(PreparedValue, cells)) / h3sql_prepared_size((h3sql_Kind) value->kind, 1);
 }
 
 PG_FUNCTION_INFO_V1(h3whole_prepared_out);
@@ -1407,10 +1502,10 @@ Datum h3whole_prepared_out(PG_FUNCTION_ARGS)
 {
 	PreparedValue *value = (PreparedValue *) PG_DETOAST_DATUM(PG_GETARG_DATUM(0));
 
-	PG_RETURN_CSTRING(psprintf("%zu cells", value->is_refused ? (size_t) 0 : count_of_value(value)));
+	PG_RETURN_CSTRING(psprintf("%zu cells", count_of_value(value)));
 }
 
-static Datum prepared_value(const void *bytes, size_t size, bool is_refused)
+static Datum prepared_value(const void *bytes, size_t size, int32 kind)
 {
 	size_t whole = offsetof(PreparedValue, cells) + size;
 	PreparedValue *value;
@@ -1419,13 +1514,13 @@ static Datum prepared_value(const void *bytes, size_t size, bool is_refused)
 		ereport(ERROR, (errcode(ERRCODE_PROGRAM_LIMIT_EXCEEDED), errmsg("the cells take more than a gigabyte")));
 	value = palloc(whole);
 	SET_VARSIZE(value, whole);
-	value->is_refused = is_refused;
+	value->kind = kind;
 	memcpy(value->cells, bytes, size);
 	PG_RETURN_POINTER(value);
 }
 
 /* Prepares an array. An error is reported by the lookup, which is called for no cell that is NULL. */
-static Datum prepare_value(FunctionCallInfo fcinfo, bool is_region)
+static Datum prepare_value(FunctionCallInfo fcinfo, h3sql_Kind kind)
 {
 	ArrayType *array = PG_GETARG_ARRAYTYPE_P(0);
 	h3sql_List cells;
@@ -1433,59 +1528,93 @@ static Datum prepare_value(FunctionCallInfo fcinfo, bool is_region)
 	H3Error error = E_CELL_INVALID;
 
 	CHECK_FOR_INTERRUPTS();
-	if (!array_contains_nulls(array))
+	if (!array_contains_nulls(array) && !(kind == H3SQL_PLACES && ARR_NDIM(array) > 1))
 	{
 		cells = cells_of(array);
-		error = h3sql_prepare(&zones, &cells, is_region, resize, CurrentMemoryContext);
+		error = h3sql_prepare(&zones, &cells, kind, first_of(array, kind), resize, CurrentMemoryContext);
 	}
 	if (error == E_MEMORY_ALLOC)
 		check(error, H3_NULL);
 	if (error)
-		return prepared_value(array, VARSIZE(array), true);
-	return prepared_value(zones.cells, zones.count * sizeof(H3Index), false);
+		return prepared_value(array, VARSIZE(array), REFUSED);
+	return prepared_value(zones.cells, h3sql_prepared_size(kind, zones.count), kind_of_value(kind));
 }
 
 PG_FUNCTION_INFO_V1(h3whole_prepare_region);
 Datum h3whole_prepare_region(PG_FUNCTION_ARGS)
 {
-	return prepare_value(fcinfo, true);
+	return prepare_value(fcinfo, H3SQL_REGION);
 }
 
 PG_FUNCTION_INFO_V1(h3whole_prepare_zones);
 Datum h3whole_prepare_zones(PG_FUNCTION_ARGS)
 {
-	return prepare_value(fcinfo, false);
+	return prepare_value(fcinfo, H3SQL_ZONES);
 }
 
-/* The zone of the cell of the first argument in the prepared value of the second. */
-static H3Index looked_up_in_value(FunctionCallInfo fcinfo, bool is_region)
+PG_FUNCTION_INFO_V1(h3whole_prepare_places);
+Datum h3whole_prepare_places(PG_FUNCTION_ARGS)
+{
+	return prepare_value(fcinfo, H3SQL_PLACES);
+}
+
+PG_FUNCTION_INFO_V1(h3whole_prepare_overlapping);
+Datum h3whole_prepare_overlapping(PG_FUNCTION_ARGS)
+{
+	return prepare_value(fcinfo, H3SQL_OVERLAPPING);
+}
+
+/* What the second argument has, a prepared value: in the current memory if its array is prepared here, which refuses
+ * it. */
+static h3sql_List zones_in_value(FunctionCallInfo fcinfo, h3sql_Kind kind)
 {
 	PreparedValue *value = (PreparedValue *) PG_DETOAST_DATUM(PG_GETARG_DATUM(1));
 	h3sql_List zones;
 
-	if (value->is_refused)
+	if (value->kind == REFUSED)
 	{
-		zones = cells_of((ArrayType *) value->cells);
-		zones = zones_of(&zones, is_region);
+		ArrayType *array = (ArrayType *) value->cells;
+
+		zones = cells_of(array);
+		return zones_of(&zones, kind, first_of(array, kind));
 	}
-	else
-	{
-		zones.cells = value->cells;
-		zones.count = zones.room = count_of_value(value);
-	}
-	return looked_up(fcinfo, &zones);
+	if (value->kind != kind_of_value(kind))
+		ereport(ERROR, (errcode(ERRCODE_INVALID_PARAMETER_VALUE), errmsg("cells that are prepared for another call")));
+	zones.cells = value->cells;
+	zones.count = zones.room = count_of_value(value);
+	return zones;
 }
 
 PG_FUNCTION_INFO_V1(h3whole_prepared_covers);
 Datum h3whole_prepared_covers(PG_FUNCTION_ARGS)
 {
-	PG_RETURN_BOOL(looked_up_in_value(fcinfo, true) != H3_NULL);
+	h3sql_List zones = zones_in_value(fcinfo, H3SQL_REGION);
+
+	PG_RETURN_BOOL(looked_up(fcinfo, &zones) != H3_NULL);
 }
 
 PG_FUNCTION_INFO_V1(h3whole_prepared_zone_of);
 Datum h3whole_prepared_zone_of(PG_FUNCTION_ARGS)
 {
-	return zone_or_null(fcinfo, looked_up_in_value(fcinfo, false));
+	h3sql_List zones = zones_in_value(fcinfo, H3SQL_ZONES);
+
+	return zone_or_null(fcinfo, looked_up(fcinfo, &zones));
+}
+
+PG_FUNCTION_INFO_V1(h3whole_prepared_place_of);
+Datum h3whole_prepared_place_of(PG_FUNCTION_ARGS)
+{
+	h3sql_List zones = zones_in_value(fcinfo, H3SQL_PLACES);
+
+	return place_or_null(fcinfo, &zones);
+}
+
+PG_FUNCTION_INFO_V1(h3whole_prepared_zones_of);
+Datum h3whole_prepared_zones_of(PG_FUNCTION_ARGS)
+{
+	h3sql_List zones = zones_in_value(fcinfo, H3SQL_OVERLAPPING);
+
+	return rows_of_zones(fcinfo, &zones);
 }
 
 PG_FUNCTION_INFO_V1(h3whole_cell_to_ancestors);
@@ -1579,7 +1708,7 @@ static h3sql_List zones_in(struct varlena *given, MemoryContext memory)
 {
 	h3sql_List cells = cells_of(DatumGetArrayTypeP(PointerGetDatum(given)));
 	MemoryContext before = MemoryContextSwitchTo(memory);
-	h3sql_List zones = zones_of(&cells, false);
+	h3sql_List zones = zones_of(&cells, H3SQL_ZONES, 1);
 
 	MemoryContextSwitchTo(before);
 	return zones;

@@ -529,7 +529,7 @@ static const Function operations[] = {
 typedef struct {
     h3sql_Kept kept;
     int holders;
-    bool is_region;
+    h3sql_Kind kind;
     /* of those that have a name: its number, which no other one has, its place, and when it was last used */
     uint64_t number, used;
     size_t place, weight;
@@ -556,7 +556,7 @@ typedef struct {
     struct Connection *connection;
 } Module;
 
-#define SETS 12
+#define SETS 13
 
 /* What the functions of one connection share. Each that has it holds it. */
 typedef struct Connection {
@@ -714,23 +714,23 @@ static void destination(sqlite3_context *context, int count, sqlite3_value **val
     else put_index(context, out, is_text(values[0]));
 }
 
-static bool is_same(const Prepared *prepared, const char *text, size_t length, bool is_region) {
-    return prepared->is_region == is_region && prepared->length == length && !memcmp(prepared->text, text, length);
+static bool is_same(const Prepared *prepared, const char *text, size_t length, h3sql_Kind kind) {
+    return prepared->kind == kind && prepared->length == length && !memcmp(prepared->text, text, length);
 }
 
-static uint64_t hash_of(const char *text, size_t length, bool is_region) {
-    return h3sql_hash(text, length) ^ (uint64_t)is_region;
+static uint64_t hash_of(const char *text, size_t length, h3sql_Kind kind) {
+    return h3sql_hash(text, length) ^ (uint64_t)kind;
 }
 
 /* Finds what was prepared of a text: of the last call, or by the hash; NULL if it was not. */
-static Prepared *find(Connection *connection, const char *text, size_t length, bool is_region) {
+static Prepared *find(Connection *connection, const char *text, size_t length, h3sql_Kind kind) {
     Prepared *last = connection->last;
     uint64_t hash;
     h3sql_Kept *found;
-    if (last && is_same(last, text, length, is_region)) return last;
-    hash = hash_of(text, length, is_region);
+    if (last && is_same(last, text, length, kind)) return last;
+    hash = hash_of(text, length, kind);
     found = h3sql_chain(&connection->cache, hash);
-    while (found && !(found->hash == hash && is_same((Prepared *)found, text, length, is_region))) found = found->next;
+    while (found && !(found->hash == hash && is_same((Prepared *)found, text, length, kind))) found = found->next;
     if (found) connection->last = (Prepared *)found;
     return (Prepared *)found;
 }
@@ -743,7 +743,7 @@ static H3Error keep(Connection *connection, Prepared *prepared, const char *text
     if (!prepared->text) return E_MEMORY_ALLOC;
     memcpy(prepared->text, text, length);
     prepared->length = length;
-    prepared->kept.hash = hash_of(text, length, prepared->is_region);
+    prepared->kept.hash = hash_of(text, length, prepared->kind);
     error = h3sql_keep(&connection->cache, &prepared->kept, cells, resize, NULL);
     if (error) return error;
     prepared->holders++;
@@ -772,34 +772,40 @@ static void put_zone(sqlite3_context *context, const Given *given, H3Index zone)
     else put_index(context, zone, given->are_texts && !found);
 }
 
-/* Prepares the cells of a value, and keeps those of a text; NULL where they are refused, and the
- * call has ended. The caller holds what is returned. */
-static Prepared *prepare(sqlite3_context *context, sqlite3_value *value, bool is_region) {
-    Connection *connection = sqlite3_user_data(context);
+/* Prepares the cells of a value, and keeps those of a text; the caller holds what is returned. NULL where they are
+ * refused: then `*error` or `*code` says why, and so do the cells and `*refused`. The caller gives these back. */
+static Prepared *made_of(Connection *connection, sqlite3 *engine, sqlite3_value *value, h3sql_Kind kind, Cells *cells,
+                         char **refused, H3Error *error, int *code) {
+    Prepared *made = sqlite3_malloc64(sizeof *made);
+    *error = E_MEMORY_ALLOC;
+    *code = SQLITE_OK;
+    if (!made) return NULL;
+    memset(made, 0, sizeof *made);
+    made->holders = 1;
+    made->kind = kind;
+    cells->given.is_kept = kind != H3SQL_REGION;
+    *error = take_array(cells, refused, engine, value, code);
+    if (!*error && *code == SQLITE_OK) *error = h3sql_prepare(&made->zones, &cells->list, kind, 0, resize, NULL);
+    move_given(&made->given, &cells->given);
+    /* (an item that is kept takes as much as four cells) */
+    made->weight = cells->list.count + 4 * made->given.count + H3SQL_KEPT_EXTRA;
+    if (!*error && *code == SQLITE_OK && is_text(value))
+        *error = keep(connection, made, (const char *)sqlite3_value_text(value), (size_t)sqlite3_value_bytes(value),
+                      cells->list.count + 4 * made->given.count);
+    if (!*error && *code == SQLITE_OK) return made;
+    drop(made);
+    return NULL;
+}
+
+/* The same of an argument of a call, which has ended where the cells are refused. */
+static Prepared *prepare(sqlite3_context *context, sqlite3_value *value, h3sql_Kind kind) {
     Cells cells = {0};
     char *refused = NULL;
-    int code = SQLITE_OK;
-    H3Error error = E_MEMORY_ALLOC;
-    Prepared *made = sqlite3_malloc64(sizeof *made);
-    if (made) {
-        memset(made, 0, sizeof *made);
-        made->holders = 1;
-        made->is_region = is_region;
-        cells.given.is_kept = !is_region;
-        error = take_array(&cells, &refused, sqlite3_context_db_handle(context), value, &code);
-    }
-    if (!error && code == SQLITE_OK) error = h3sql_prepare(&made->zones, &cells.list, is_region, resize, NULL);
-    if (made) move_given(&made->given, &cells.given);
-    /* (an item that is kept takes as much as four cells) */
-    if (!error && code == SQLITE_OK && is_text(value))
-        error = keep(connection, made, (const char *)sqlite3_value_text(value), (size_t)sqlite3_value_bytes(value),
-                     cells.list.count + 4 * made->given.count);
-    if (error || code != SQLITE_OK) {
-        put_list_error(context, code, error, &cells, refused);
-        if (made) drop(made);
-        made = NULL;
-    }
-    if (made) made->weight = cells.list.count + 4 * made->given.count + H3SQL_KEPT_EXTRA;
+    int code;
+    H3Error error;
+    Prepared *made = made_of(sqlite3_user_data(context), sqlite3_context_db_handle(context), value, kind, &cells,
+                             &refused, &error, &code);
+    if (!made) put_list_error(context, code, error, &cells, refused);
     release(&cells);
     return made;
 }
@@ -811,7 +817,7 @@ typedef struct {
 } Name;
 
 /* What a value names, which the caller holds; NULL if it is none of what is kept, and the call has ended. */
-static Prepared *named_by(sqlite3_context *context, sqlite3_value *value, bool is_region) {
+static Prepared *named_by(sqlite3_context *context, sqlite3_value *value, h3sql_Kind kind) {
     Connection *connection = sqlite3_user_data(context);
     const void *bytes = sqlite3_value_blob(value);
     bool is_name = bytes && sqlite3_value_bytes(value) == (int)sizeof(Name);
@@ -820,14 +826,15 @@ static Prepared *named_by(sqlite3_context *context, sqlite3_value *value, bool i
     if (is_name) memcpy(&name, bytes, sizeof name);
     if (name.place < MOST_NAMED && !memcmp(name.chance, connection->chance, sizeof name.chance))
         found = connection->named[name.place];
-    if (found && found->number == name.number && found->is_region == is_region) {
+    if (found && found->number == name.number && (found->kind == H3SQL_REGION) == (kind == H3SQL_REGION)) {
         found->used = ++connection->uses;
         found->holders++;
         return found;
     }
     put_error(context, E_FAILED,
-              is_name ? sqlite3_mprintf("not a value that h3_prepare_%s keeps", is_region ? "region" : "zones")
-                      : shown(value));
+              is_name
+                  ? sqlite3_mprintf("not a value that h3_prepare_%s keeps", kind == H3SQL_REGION ? "region" : "zones")
+                  : shown(value));
     return NULL;
 }
 
@@ -869,7 +876,7 @@ static void give_name(Connection *connection, Prepared *prepared) {
 /* The prepared cells of an argument, which the caller holds; NULL where they are refused, and the call
  * has ended. SQLite keeps them where the argument is a constant. Any other text is looked for by its
  * bytes. */
-static Prepared *prepared_of(sqlite3_context *context, int argument, sqlite3_value *value, bool is_region) {
+static Prepared *prepared_of(sqlite3_context *context, int argument, sqlite3_value *value, h3sql_Kind kind) {
     Connection *connection = sqlite3_user_data(context);
     Prepared *found = sqlite3_get_auxdata(context, argument);
     const char *text;
@@ -877,26 +884,24 @@ static Prepared *prepared_of(sqlite3_context *context, int argument, sqlite3_val
         found->holders++;
         return found;
     }
-    if (sqlite3_value_type(value) == SQLITE_BLOB) return named_by(context, value, is_region);
+    if (sqlite3_value_type(value) == SQLITE_BLOB) return named_by(context, value, kind);
     text = is_text(value) ? (const char *)sqlite3_value_text(value) : NULL;
-    if (text) found = find(connection, text, (size_t)sqlite3_value_bytes(value), is_region);
+    if (text) found = find(connection, text, (size_t)sqlite3_value_bytes(value), kind);
     if (found) found->holders++;
-    else found = prepare(context, value, is_region);
+    else found = prepare(context, value, kind);
     if (!found) return NULL;
     found->holders++;
     sqlite3_set_auxdata(context, argument, found, drop);
     return found;
 }
 
-/* The zone of the cell of the first argument among the cells of the second, and these, prepared, which the caller
- * holds; NULL where there is an error, with which the call ends. */
-static Prepared *look_up(sqlite3_context *context, sqlite3_value **values, bool is_region, H3Index *zone) {
-    Prepared *prepared = prepared_of(context, 1, values[1], is_region);
-    H3Index index;
+/* The cell of the first argument, and the cells of the second, prepared, which the caller holds; NULL where an argument
+ * is NULL or there is an error, with which the call ends. */
+static Prepared *look_up(sqlite3_context *context, int count, sqlite3_value **values, h3sql_Kind kind, H3Index *cell) {
+    Prepared *prepared = has_null(count, values) ? NULL : prepared_of(context, 1, values[1], kind);
     H3Error error;
     if (!prepared) return NULL;
-    error = index_of(values[0], &index);
-    if (!error) error = h3sql_zone_of(&prepared->zones, index, zone);
+    error = index_of(values[0], cell);
     if (!error) return prepared;
     drop(prepared);
     put_error(context, error, named(values[0]));
@@ -904,26 +909,43 @@ static Prepared *look_up(sqlite3_context *context, sqlite3_value **values, bool 
 }
 
 static void is_covered(sqlite3_context *context, int count, sqlite3_value **values) {
-    H3Index zone = H3_NULL;
-    Prepared *region = has_null(count, values) ? NULL : look_up(context, values, true, &zone);
+    H3Index cell, zone = H3_NULL;
+    Prepared *region = look_up(context, count, values, H3SQL_REGION, &cell);
+    H3Error error = region ? h3sql_zone_of(&region->zones, cell, &zone) : E_SUCCESS;
     if (!region) return;
     drop(region);
-    sqlite3_result_int(context, zone != H3_NULL);
+    if (error) put_error(context, error, named(values[0]));
+    else sqlite3_result_int(context, zone != H3_NULL);
 }
 
 /* NULL where the cell has no zone */
 static void zone_of(sqlite3_context *context, int count, sqlite3_value **values) {
-    H3Index zone = H3_NULL;
-    Prepared *zones = has_null(count, values) ? NULL : look_up(context, values, false, &zone);
+    H3Index cell, zone = H3_NULL;
+    Prepared *zones = look_up(context, count, values, H3SQL_ZONES, &cell);
+    H3Error error = zones ? h3sql_zone_of(&zones->zones, cell, &zone) : E_SUCCESS;
     if (!zones) return;
-    if (zone != H3_NULL) put_zone(context, &zones->given, zone);
+    if (error) put_error(context, error, named(values[0]));
+    else if (zone != H3_NULL) put_zone(context, &zones->given, zone);
     drop(zones);
 }
 
+/* The place in the array, from 0 on, as json_each and -> have it; NULL where the cell has no zone */
+static void place_of(sqlite3_context *context, int count, sqlite3_value **values) {
+    H3Index cell;
+    bool found = false;
+    int32_t place = 0;
+    Prepared *zones = look_up(context, count, values, H3SQL_PLACES, &cell);
+    H3Error error = zones ? h3sql_place_of(&zones->zones, cell, &found, &place) : E_SUCCESS;
+    if (!zones) return;
+    drop(zones);
+    if (error) put_error(context, error, named(values[0]));
+    else if (found) sqlite3_result_int(context, place);
+}
+
 /* Prepares cells, and returns their name. */
-static void put_name(sqlite3_context *context, sqlite3_value *value, bool is_region) {
+static void put_name(sqlite3_context *context, sqlite3_value *value, h3sql_Kind kind) {
     Connection *connection = sqlite3_user_data(context);
-    Prepared *prepared = prepared_of(context, 0, value, is_region);
+    Prepared *prepared = prepared_of(context, 0, value, kind);
     Name name = {{connection->chance[0], connection->chance[1]}, 0, 0};
     if (!prepared) return;
     if (!prepared->number) give_name(connection, prepared);
@@ -935,11 +957,12 @@ static void put_name(sqlite3_context *context, sqlite3_value *value, bool is_reg
 }
 
 static void prepare_region(sqlite3_context *context, int count, sqlite3_value **values) {
-    if (!has_null(count, values)) put_name(context, values[0], true);
+    if (!has_null(count, values)) put_name(context, values[0], H3SQL_REGION);
 }
 
+/* (with places, for h3_place_of as for h3_zone_of) */
 static void prepare_zones(sqlite3_context *context, int count, sqlite3_value **values) {
-    if (!has_null(count, values)) put_name(context, values[0], false);
+    if (!has_null(count, values)) put_name(context, values[0], H3SQL_PLACES);
 }
 
 /* The functions of a connection: over its table, which another one may replace, and over what it
@@ -955,6 +978,7 @@ static const struct {
     {"h3_get_directed_edge_destination", 1, SQLITE_INNOCUOUS, destination},
     {"h3_is_covered", 2, SQLITE_INNOCUOUS | SQLITE_DETERMINISTIC, is_covered},
     {"h3_zone_of", 2, SQLITE_INNOCUOUS | SQLITE_DETERMINISTIC, zone_of},
+    {"h3_place_of", 2, SQLITE_INNOCUOUS | SQLITE_DETERMINISTIC, place_of},
     {"h3_prepare_region", 1, SQLITE_INNOCUOUS, prepare_region},
     {"h3_prepare_zones", 1, SQLITE_INNOCUOUS, prepare_zones},
 };
@@ -972,8 +996,9 @@ typedef struct {
     sqlite3_value *arguments[MOST_ARGUMENTS];
     /* what the error of an item is about */
     char *refused;
-    /* the memory of a walk */
+    /* the memory of a walk, and zones that are held */
     void *walked;
+    Prepared *zones;
     bool as_texts, found;
     /* what the second argument is, if it is not given */
     bool is_default;
@@ -999,7 +1024,7 @@ typedef struct {
     sqlite3_vtab base;
     sqlite3 *engine;
     const Set *set;
-    const Connection *connection;
+    Connection *connection;
 } Table;
 
 static H3Error begin_res0_cells(Cursor *cursor, sqlite3 *engine, sqlite3_value **values, int *code) {
@@ -1126,6 +1151,38 @@ static H3Error begin_ring(Cursor *cursor, sqlite3 *engine, sqlite3_value **value
     return begin_walk(cursor, H3SQL_RING, values);
 }
 
+/* The zones of a value, prepared, which the cursor holds; NULL where there is an error. */
+static Prepared *zones_of(Cursor *cursor, sqlite3 *engine, sqlite3_value *value, H3Error *error, int *code) {
+    Connection *connection = ((Table *)cursor->base.pVtab)->connection;
+    const char *text = is_text(value) ? (const char *)sqlite3_value_text(value) : NULL;
+    Prepared *found = NULL;
+    if (text) found = find(connection, text, (size_t)sqlite3_value_bytes(value), H3SQL_OVERLAPPING);
+    if (found) found->holders++;
+    else found = made_of(connection, engine, value, H3SQL_OVERLAPPING, &cursor->cells, &cursor->refused, error, code);
+    cursor->zones = found;
+    return found;
+}
+
+static H3Error begin_zones(Cursor *cursor, sqlite3 *engine, sqlite3_value **values, int *code) {
+    H3Index index;
+    size_t count = 0;
+    H3Error error = E_SUCCESS;
+    Prepared *zones = zones_of(cursor, engine, values[1], &error, code);
+    h3sql_listed(&cursor->rows, cursor->rows.own, 0);
+    if (!zones) return error;
+    error = index_of(values[0], &index);
+    if (!error) error = h3sql_zones_of(&zones->zones, index, cursor->rows.own, &count);
+    cursor->rows.count = count;
+    return error;
+}
+
+/* (the array is judged first) */
+static char *about_zones(H3Error error, Cursor *cursor, sqlite3_value **values) {
+    if (cursor->zones) return named(values[0]);
+    if (cursor->refused) return sqlite3_mprintf("%s", cursor->refused);
+    return listed(error, &cursor->cells.list, 0);
+}
+
 #define ARGUMENTS_OF_WALK "\"h3whole.origin\" HIDDEN, \"h3whole.k\" HIDDEN)"
 
 static const Set sets[SETS] = {
@@ -1138,6 +1195,8 @@ static const Set sets[SETS] = {
      false, false},
     {"h3_cell_to_children", "CREATE TABLE x(value, \"h3whole.cell\" HIDDEN, \"h3whole.resolution\" HIDDEN)", 1, 2, 1,
      begin_children, about_children, false, false},
+    {"h3_zones_of", "CREATE TABLE x(value, \"h3whole.cell\" HIDDEN, \"h3whole.zones\" HIDDEN)", 1, 2, 2, begin_zones,
+     about_zones, false, false},
     {"h3_uncompact_cells", "CREATE TABLE x(value, \"h3whole.cells\" HIDDEN, \"h3whole.resolution\" HIDDEN)", 1, 2, 1,
      begin_uncompacted, about_uncompacted, false, false},
     {"h3_grid_disk_unsafe", "CREATE TABLE x(value, " ARGUMENTS_OF_WALK, 1, 2, 1, begin_disk, about_walk, true, false},
@@ -1219,6 +1278,8 @@ static void clear(Cursor *cursor) {
     cursor->refused = NULL;
     sqlite3_free(cursor->walked);
     cursor->walked = NULL;
+    if (cursor->zones) drop(cursor->zones);
+    cursor->zones = NULL;
     for (i = 0; i < MOST_ARGUMENTS; i++) {
         sqlite3_value_free(cursor->arguments[i]);
         cursor->arguments[i] = NULL;
@@ -1284,7 +1345,8 @@ static int at_end(sqlite3_vtab_cursor *base) { return !((Cursor *)base)->found; 
 static int column(sqlite3_vtab_cursor *base, sqlite3_context *context, int number) {
     Cursor *cursor = (Cursor *)base;
     int columns = ((Table *)base->pVtab)->set->columns;
-    if (number == 0) put_index(context, cursor->row, cursor->as_texts);
+    if (number == 0 && cursor->zones) put_zone(context, &cursor->zones->given, cursor->row);
+    else if (number == 0) put_index(context, cursor->row, cursor->as_texts);
     else if (number < columns) sqlite3_result_int(context, cursor->rows.distances[cursor->rows.at - 1]);
     else if (cursor->arguments[number - columns]) sqlite3_result_value(context, cursor->arguments[number - columns]);
     return SQLITE_OK;

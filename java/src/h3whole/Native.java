@@ -26,6 +26,7 @@ final class Native {
     static final int CELLS_TO_ZONES = 11;
     static final int ARE_COVERED_CELLS = 12;
     static final int CELLS_TO_LAST_CHILDREN = 13;
+    static final int CELLS_TO_ZONES_PLACES = 14;
 
     private Native() {}
 
@@ -102,8 +103,8 @@ final class Native {
     /** Fills an array of as many results, of the type that the function has. */
     static native long fillColumn(int function, long[] cells, int res, Object out);
 
-    /** Returns the address of zones, for {@code freeZones}, or 0. */
-    static native long zones(long[] cells, long[] status);
+    /** Returns the address of zones, with the place of each in the list or without, for {@code freeZones}, or 0. */
+    static native long zones(long[] cells, boolean hasPlaces, long[] status);
 
     static native void freeZones(long zones);
 

@@ -17,9 +17,10 @@ final class Order {
     private final Cleaner.Cleanable cleanable = CLEANER.register(this, memory);
     private volatile boolean isClosed;
 
-    Order(long[] cells) {
+    /** (the places of the cells in the list are for {@code CELLS_TO_ZONES_PLACES}) */
+    Order(long[] cells, boolean hasPlaces) {
         long[] status = new long[1];
-        memory.address = Native.zones(requireNonNull(cells), status);
+        memory.address = Native.zones(requireNonNull(cells), hasPlaces, status);
         if (memory.address == 0) {
             H3.ofCells(null, status, cells);
         }

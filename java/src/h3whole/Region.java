@@ -33,7 +33,7 @@ public final class Region implements Serializable, AutoCloseable {
     /** (whose list the library has made) */
     private Region(long[] cells, boolean isKnown) {
         this.cells = cells;
-        order = new Order(cells);
+        order = new Order(cells, false);
     }
 
     /** Makes the region of what the cells cover. Errors as of {@link #Region(long[])}. */

@@ -11,7 +11,7 @@ import java.util.Collection;
  * Cells that do not overlap, of any resolutions, by which other cells are joined and counted. Each cell is in one zone
  * at most: the one that is the cell or an ancestor of it.
  *
- * <p>Zones never change, and threads may share them. They take 8 bytes for each zone outside of Java's heap, which
+ * <p>Zones never change, and threads may share them. They take 12 bytes for each zone outside of Java's heap, which
  * {@link #close} gives back, or else the garbage collector when it finds them unreachable, and 12 in it. Java's
  * serialization writes the list of cells, and judges it anew when it is read. Another kind, which copies fields, makes
  * zones that throw an IllegalStateException.
@@ -39,7 +39,7 @@ public final class Zones implements Serializable, AutoCloseable {
      *     twice, or with an ancestor of it
      */
     public Zones(long[] cells) {
-        order = new Order(cells);
+        order = new Order(cells, true);
         long[] ordered = order.cells();
         this.cells = ordered.clone();
         Arrays.sort(this.cells);
@@ -79,6 +79,36 @@ public final class Zones implements Serializable, AutoCloseable {
         Columns.checkRoom(cells.length, out.length);
         long[] given = cells == out ? cells.clone() : cells;
         return Columns.missingCells(order().fill(Native.CELLS_TO_ZONES, given, out), given);
+    }
+
+    /**
+     * Returns the place of a cell's zone in the list of cells that the zones were made of, from 0 on, or -1 if it has
+     * none. So {@code names[zones.placeOf(cell)]} is the name of the zone.
+     *
+     * @throws H3Exception {@code E_CELL_INVALID}
+     */
+    public int placeOf(long cell) {
+        int[] place = new int[1];
+        long status = order().fill(Native.CELLS_TO_ZONES_PLACES, new long[] {cell}, place);
+        H3.checked(-(status >>> 32), cell);
+        return place[0];
+    }
+
+    /**
+     * Returns the place of the zone of each cell of a column, as {@link #placeOf}, and -1 for one that has none.
+     *
+     * @throws H3Exception {@code E_CELL_INVALID}, with its place
+     */
+    public int[] placesOf(long[] cells) {
+        int[] places = new int[cells.length];
+        Columns.check(order().fill(Native.CELLS_TO_ZONES_PLACES, cells, places), cells, 0);
+        return places;
+    }
+
+    /** Fills an array with the places of zones, and returns the places of cells not valid, where it is -1. */
+    public BitSet placesOf(long[] cells, int[] out) {
+        Columns.checkRoom(cells.length, out.length);
+        return Columns.missingCells(order().fill(Native.CELLS_TO_ZONES_PLACES, cells, out), cells);
     }
 
     /**
@@ -192,7 +222,7 @@ public final class Zones implements Serializable, AutoCloseable {
         return error;
     }
 
-    /** The serialized form of zones. */
+    /** The serialized form of zones: the cells in the order in which they were given. */
     private static final class Form implements Serializable {
         private static final long serialVersionUID = 1;
         private final long[] cells;
@@ -211,7 +241,12 @@ public final class Zones implements Serializable, AutoCloseable {
     }
 
     private Object writeReplace() {
-        return new Form(toArray());
+        int[] places = placesOf(toArray());
+        long[] given = new long[places.length];
+        for (int place = 0; place < places.length; place++) {
+            given[places[place]] = cells[place];
+        }
+        return new Form(given);
     }
 
     private void readObject(ObjectInputStream stream) throws InvalidObjectException {
