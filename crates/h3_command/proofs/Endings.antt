@@ -147,7 +147,7 @@ rows_unread : (form : Form) (input : SourceUse) → NoReadFails input → input.
 rows_unread form input sound alone =
     let (bytes, held) = some_left input.left in
     let told = subst (λ after. Consumes input.left after []) (sym alone) (Consumes-nil input.left) in
-    (sound, record { part = []; last = []; rest = bytes; held = held; told = told; short = omega arith; ended = []; unended = ([], false); rows = refl; cells = []; good = refl })
+    (sound, record { part = []; last = []; rest = bytes; held = held; told = told; short = omega arith; ended = []; unended = ([], false); rows = refl; begun = omega arith; cells = []; good = refl })
 
 -- there is no memory before any of a list is read, bare or of rows
 pub list_unread : (form : Option Form) (about : List Address → Answer) (input : SourceUse) (out : SinkUse) → NoReadFails input → input.left_after ≡ input.left → IsLeft out → EndsNumberedList form about input (Err (Fault Memory)) out
@@ -268,10 +268,10 @@ gives_rows : (form : Form) (about : Option ℕ → Answer) (ending : Result (Uni
     → EndsRows form.quotes (rows_answer form about) (begun_answer form about) s.input.left s.input.left_after s.input.had_failed s.input.has_failed ending s.out → Reports ending status s.err
     → (list : List ℕ) × HasLeft s.input.left list × ((ReadFails s.input list → ⊥) → s.out.has_failed ≡ false → Gives (row_answers form about list) status s ⊎ RunsOutOfMemory status s)
 gives_rows form about (Ok u) status s (sound, all) reports = (all.list, all.held, λ r w. inl (gives_written (row_answers form about all.list) (Ok u) status s all.writes w reports))
-gives_rows form about (Err (Error e)) status s (sound, inl all) reports = (all.list, all.held, λ r w. inl (gives_written (row_answers form about all.list) (Err (Error e)) status s all.writes w reports))
+gives_rows form about (Err (Error e)) status s (sound, inl (all, good)) reports = (all.list, all.held, λ r w. inl (gives_written (row_answers form about all.list) (Err (Error e)) status s all.writes w reports))
 gives_rows form about (Err (Error e)) status s (sound, inr (stop, writes)) reports =
     (stop.part ++ stop.last ++ stop.rest, stop.held, λ r w. inl (gives_written (row_answers form about (stop.part ++ stop.last ++ stop.rest)) (Err (Error e)) status s writes w reports))
-gives_rows form about (Err (Fault Write)) status s (sound, inl all) reports = (all.list, all.held, λ r w. inl (gives_written (row_answers form about all.list) (Err (Fault Write)) status s all.writes w reports))
+gives_rows form about (Err (Fault Write)) status s (sound, inl (all, good)) reports = (all.list, all.held, λ r w. inl (gives_written (row_answers form about all.list) (Err (Fault Write)) status s all.writes w reports))
 gives_rows form about (Err (Fault Write)) status s (sound, inr (stop, takes)) reports = (stop.part ++ stop.last ++ stop.rest, stop.held, λ r w. absurd (cc (takes.failed, w)))
 gives_rows form about (Err (Fault Read)) status s stops reports = (stops.part ++ stops.rest, stops.held, λ r w. absurd (r stops.fails))
 gives_rows form about (Err (Fault Memory)) status s (sound, kept, left) reports =
@@ -288,10 +288,12 @@ gives_lines (Some form) about ending status s ends reports = gives_rows form abo
 gives_refused_rows : (form : Form) (about : List Address → Answer) (ending : Result (Unit {0}) RunError) (status : ℕ) (s : Streams) → RefusesInput form s.input ending → IsLeft s.out → Reports ending status s.err
     → (list : List ℕ) × HasLeft s.input.left list × ((ReadFails s.input list → ⊥) → Gives (about_rows form about list) status s ⊎ RunsOutOfMemory status s)
 gives_refused_rows form about (Ok u) status s never left reports = absurd never
-gives_refused_rows form about (Err (Error e)) status s (sound, inl all) left reports =
+gives_refused_rows form about (Err (Error e)) status s (sound, inl late) left reports =
+    let all = late.read in
     (all.list, all.held, λ r. inl (subst (λ c. Gives (unless_refused about c) status s) (sym all.is) (record { output = (nothing _ _ left.0, left.1); report = reports })))
-gives_refused_rows form about (Err (Error e)) status s (sound, inr (stop, is)) left reports =
-    (stop.part ++ stop.last ++ stop.rest, stop.held, λ r. inl (subst (λ c. Gives (unless_refused about c) status s) (sym is) (record { output = (nothing _ _ left.0, left.1); report = reports })))
+gives_refused_rows form about (Err (Error e)) status s (sound, inr page) left reports =
+    let stop = page.stop in
+    (stop.part ++ stop.last ++ stop.rest, stop.held, λ r. inl (subst (λ c. Gives (unless_refused about c) status s) (sym page.is) (record { output = (nothing _ _ left.0, left.1); report = reports })))
 gives_refused_rows form about (Err (Fault Memory)) status s (sound, stop) left reports = (stop.part ++ stop.last ++ stop.rest, stop.held, λ r. inr (record { output = left; report = reports }))
 gives_refused_rows form about (Err (Fault Read)) status s (stop, fails) left reports = (stop.part ++ stop.last ++ stop.rest, stop.held, λ r. absurd (r fails))
 gives_refused_rows form about (Err (Fault Write)) status s never left reports = absurd never

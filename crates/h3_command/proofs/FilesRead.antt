@@ -1,6 +1,7 @@
 -- How a file of cells is read.
 use Rattle.std.proofs.Common.{◌≡◌, ℕ, ◌^◌, List, [], ◌++◌, Option, None, Some, Result, Ok, Err, ap, sym, ◌∙◌, refl, subst, inl, inr, append-nil}
 use Rattle.std.proofs.lemmas.List.{append_cancel_left}
+use Rattle.std.specs.Prelude.{is_ok}
 use Rattle.std.specs.Io.KnownBytes.{Consumes}
 use Rattle.h3_index.specs.Cell.{Address}
 use Rattle.h3_index.specs.declared.error.H3Error.{H3Error}
@@ -105,24 +106,26 @@ bare_refused kind file (Fault Write) told = absurd told.refused
 rows_refused : (kind : CellFile) (form : Form) (file : SourceUse) (e : RunError)
     → RefusesRows form file.left file.left_after file.had_failed file.has_failed e
     → (bytes : List ℕ) × HasLeft file.left bytes × RefusesFile kind (Some form) bytes file (Err (in_file kind e))
-rows_refused kind form file (Error d) (sound, inl all) = (
-  all.list,
-  all.held,
-  (
-    ap (judged_rows kind) all.is,
-    sound,
-    subst (λ cells. IsTableReadSoFar form cells all.list file) (sym all.is)
-        (inl (all.within, table_whole form (Err d) file all)),
-  ),
-)
-rows_refused kind form file (Error d) (sound, inr (stop, is)) =
+rows_refused kind form file (Error d) (sound, inl late) =
+    let all = late.read in (
+      all.list,
+      all.held,
+      (
+        ap (judged_rows kind) all.is,
+        sound,
+        subst (λ cells. IsTableReadSoFar form cells all.list file) (sym all.is)
+            (inl ((all.within, table_whole form (Err d) file all), ap is_ok late.good)),
+      ),
+    )
+rows_refused kind form file (Error d) (sound, inr page) =
+    let stop = page.stop in
     let bytes = stop.part ++ stop.last ++ stop.rest in (
       bytes,
       stop.held,
       (
-        ap (judged_rows kind) is,
+        ap (judged_rows kind) page.is,
         sound,
-        subst (λ cells. IsTableReadSoFar form cells bytes file) (sym is) (inr (record { stop = stop; of = refl })),
+        subst (λ cells. IsTableReadSoFar form cells bytes file) (sym page.is) (inr (page, refl)),
       ),
     )
 rows_refused kind form file (Fault Memory) (sound, stop) =

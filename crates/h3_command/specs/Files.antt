@@ -52,12 +52,14 @@ abbrev pub judged_rows : CellFile → Result (List Address) AnswerError → Resu
 judged_rows file (Ok cells) = unless_error file (file_error file cells) cells
 judged_rows file (Err e) = Err (error_of_file file e)
 
--- cells_of_table form bytes: the cells of the rows in the bytes of a table, or the error of the first row that ends it
+-- cells_of_table form bytes: the cells of the rows in the bytes of a table; or the error of the first row that has one;
+-- or else, if a column is awaited by its name and no header comes, that it is not found
 abbrev pub cells_of_table : Form → List ℕ → Result (List Address) AnswerError
 cells_of_table form bytes = cells_of form (rows_of form.quotes bytes)
 
 -- file_cells file form bytes: the cells in the bytes of a file, or why it is refused: for its first faulty line, and
--- else for its cells as a whole; or, if the file has rows in a form, those of its rows, and the same of these
+-- else for its cells as a whole; or, if the file has rows in a form, the cells of its rows, or why it is refused: as
+-- `cells_of_table` says, and else for its cells as a whole
 abbrev pub file_cells : CellFile → Option Form → List ℕ → Result (List Address) AnswerError
 file_cells file None bytes = judged_cells file (faulty_line bytes) (listed_cells bytes)
 file_cells file (Some form) bytes = judged_rows file (cells_of_table form bytes)

@@ -1,5 +1,5 @@
 -- What a run does with its streams.
-use Rattle.std.specs.Prelude.{◌≡◌, ⊤, ℕ, ◌≤◌, ◌^◌, ◌⊎◌, true, false, List, ◌++◌, length, Option, None, Some, Result, Ok, Err, IsTrue}
+use Rattle.std.specs.Prelude.{◌≡◌, ⊤, ℕ, ◌≤◌, ◌^◌, ◌⊎◌, true, false, List, ◌++◌, length, Option, None, Some, Result, Ok, Err, IsOk, IsTrue}
 use Rattle.h3_index.specs.Cell.{Address}
 use Rattle.h3_streams.specs.Stream.{HasLeft}
 use Rattle.h3_index.specs.declared.error.H3Error.{H3Error}
@@ -17,10 +17,11 @@ use Rattle.h3_lines.specs.Answer.{Answer}
 use Rattle.h3_lines.specs.Write.{IsLeft, Reports, SinkUse, Takes, Writes}
 use Rattle.h3_lines.specs.EachLine.{EndsEach}
 use Rattle.h3_lines.specs.List.{listed_cells}
+use Rattle.h3_lines.specs.Pieces.{rows_of}
 use Rattle.h3_lines.specs.Reads.{IsListWithinReads, IsReadToEnd, IsWithinReads, NoReadFails, SourceUse, StopsWithin}
 use Rattle.h3_lines.specs.RunError.{ending_of}
 use Rattle.h3_rows.specs.Each.{EndsRows}
-use Rattle.h3_rows.specs.Cells.{AllRowsRead, RefusesRows, RowsReadTo}
+use Rattle.h3_rows.specs.Cells.{AllRowsRead, RefusesRows, RefusesRowsInPage, RowsReadTo, begun_cells}
 use Rattle.h3_rows.specs.RowsAnswer.{Form, begun_answer, rows_answer}
 use Rattle.h3_command.specs.Files.{cells_of_table, file_cells}
 use Rattle.h3_command.specs.Answer.{Request, about_list, about_numbered_list, about_table, answer_to, reads_list_after, reads_table, takes_memory}
@@ -130,7 +131,7 @@ EndsLines (Some form) about input ending out =
     EndsRows form.quotes (rows_answer form about) (begun_answer form about) input.left input.left_after input.had_failed input.has_failed ending out
 
 -- IsTableReadTo form n bytes file: a part of these bytes of a table of cells is read, and then at most n bytes more;
--- the rows that end in the part have no error
+-- the rows that end in the part have no error, and the one that does not has at most 1,114,111 bytes in it
 pub record IsTableReadTo (form : Form) (most : ℕ) (bytes : List ℕ) (file : SourceUse) : Type 0 where
   pub stop : RowsReadTo form most file.left file.left_after
   pub of : stop.part ++ stop.last ++ stop.rest ≡ bytes
@@ -145,12 +146,15 @@ IsFileReadTo (Some form) most bytes file = IsTableReadTo form most bytes file
 abbrev pub IsFileReadWhole : List ℕ → SourceUse → Type 0
 IsFileReadWhole bytes file = IsWithinReads (2 ^ 40) 65536 bytes × IsReadToEnd file
 
--- IsTableReadSoFar form cells bytes file: how far a table of cells is read that is refused: to its end if its
--- rows have no error, since it is then refused as a whole; and else to its end, or at most a page further than rows
--- that have no error
+-- IsTableReadSoFar form cells bytes file: how far a table of cells is read that is refused: to its end if none of its
+-- rows has an error, since it is then refused as a whole, or its header did not come; and else at most a page further
+-- than rows that have no error, in reads that may be made
 abbrev pub IsTableReadSoFar : Form → Result (List Address) AnswerError → List ℕ → SourceUse → Type 0
 IsTableReadSoFar form (Ok cells) bytes file = IsFileReadWhole bytes file
-IsTableReadSoFar form (Err e) bytes file = IsFileReadWhole bytes file ⊎ IsTableReadTo form 65536 bytes file
+IsTableReadSoFar form (Err e) bytes file =
+    (IsFileReadWhole bytes file × IsOk (begun_cells form (rows_of form.quotes bytes)))
+    ⊎ ((refused : RefusesRowsInPage form e file.left file.left_after)
+    × (refused.stop.part ++ refused.stop.last ++ refused.stop.rest ≡ bytes))
 
 -- IsFileReadSoFar form e bytes file: how far a file of cells with this error is read: to its end for one of the file
 -- as a whole, and else at most a page further than bytes in which no line is known to be faulty; or, if it has rows

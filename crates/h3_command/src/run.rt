@@ -3,7 +3,7 @@
 ghost use Rattle.std.specs.Prelude.{◌≡◌, false, true};
 ghost use Rattle.h3_lines.specs.Reads.{source_use};
 ghost use Rattle.h3_lines.specs.Write.{sink_use};
-ghost use Rattle.h3_rows.specs.Laws.{FieldsAreKept, HeaderStands, OutputReadsBack, RowsAreWhole, RowsGiveBack, RowsStand, RowsStandUntil};
+ghost use Rattle.h3_rows.specs.Laws.{FieldsAreKept, HeaderStands, MarksAreKept, OutputReadsBack, RowsAreWhole, RowsGiveBack, RowsStand, RowsStandUntil};
 ghost use Rattle.h3_command.specs.Answer.{reads_list, reads_table, request, request_of};
 ghost use Rattle.h3_command.specs.Files.{CountsPrintedAddUp};
 ghost use Rattle.h3_command.specs.NewColumns.{AnswersAreWords, ErrorNamesAreFields, ErrorNamesAreKept, RowsStandOnce, WordPairsAreKept, WordPairsAreUncut, WordsAreFields, WordsAreKept};
@@ -155,6 +155,7 @@ pub fn run_over<R: Source, T: Source, W: Sink, E: Sink>(
     ensures header { HeaderStands }
     ensures give { RowsGiveBack }
     ensures whole { RowsAreWhole }
+    ensures marks { MarksAreKept }
     ensures back { OutputReadsBack }
     ensures kept { FieldsAreKept }
 

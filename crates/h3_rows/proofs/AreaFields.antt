@@ -1,5 +1,5 @@
 -- Names are fields: what is read of a row is not cut, and closes its quotes.
-use Rattle.std.proofs.Common.{◌≡◌, ℕ, zero, suc, ◌≤◌, ◌==◌, nat_le, Bool, true, false, not, ◌&&◌, if◌then◌else◌, List, [], ◌∷◌, ◌++◌, length, reverse, Option, None, Some, option_map, unwrap_or, Result, Ok, Err, All, sym, ap, ◌∙◌, refl, subst, arith, eqb-true, length-append}
+use Rattle.std.proofs.Common.{◌≡◌, ℕ, zero, suc, ◌≤◌, ◌==◌, nat_le, Bool, true, false, not, ◌&&◌, ◌||◌, if◌then◌else◌, List, [], ◌∷◌, ◌++◌, length, reverse, Option, None, Some, option_map, unwrap_or, Result, Ok, Err, All, sym, ap, ◌∙◌, refl, subst, arith, eqb-true, length-append}
 use Rattle.std.specs.Prelude.{⊤}
 use Rattle.std.specs.List.{list_all}
 use Rattle.std.proofs.lemmas.Bool.Decides.{nat_tests}
@@ -8,7 +8,7 @@ use Rattle.std.proofs.lemmas.List.Elements.{All-append, All-cons, All-head, All-
 use Rattle.std.proofs.lemmas.List.Folds.{list_all-append}
 use Rattle.h3_index.specs.Cell.{Address}
 use Rattle.h3_index.specs.Text.{is_blank, trimmed, without_leading_blanks, without_trailing_blanks}
-use Rattle.h3_lines.specs.Pieces.{Piece, cut, inside_after, is_uncut, pieces_of, rows_of, turned, with_first, without_last_nothing}
+use Rattle.h3_lines.specs.Pieces.{Piece, Uncut, cut, inside_after, is_uncut, pieces_of, rows_of, turned, with_first, without_last_nothing}
 use Rattle.h3_lines.specs.PiecesLaws.{and_false, both, inside_after-append}
 use Rattle.h3_lines.specs.declared.run_error.AnswerError.{AnswerError}
 use Rattle.h3_lines.specs.declared.run_error.ColumnError.{ColumnError}
@@ -18,9 +18,11 @@ use Rattle.h3_rows.specs.Areas as areas
 use Rattle.h3_rows.specs.Areas.{EntriesAreFields, IsOneField, NamedCell, NamesAreFields, cells_among, name_text, named_before, names_after, place_of, with_place}
 use Rattle.h3_rows.specs.Cells.{cell_said}
 use Rattle.h3_rows.specs.Named.{Entry, Found, Table, entries_at, filled_found, found_before, found_unless, header_found, name_at, named_end, named_found, named_then, table_columns, table_first, title_list, unless_named, with_name}
-use Rattle.h3_rows.specs.Row.{next_number, piece_at, read_of, row_body, without_order_mark}
+use Rattle.h3_rows.specs.Row.{is_padded, is_read_alike, next_number, opens_well, piece_at, quotes_are_sound, read_of, row_body, without_order_mark}
 use Rattle.h3_rows.specs.RowsAnswer.{After, Choice, Named, malformed, row_said}
 use Rattle.h3_rows.specs.declared.table.TableColumns.{TableColumns}
+use Rattle.h3_rows.proofs.Alike.{alike_last}
+use Rattle.h3_rows.proofs.Feeds.{two_hold}
 use Rattle.h3_rows.proofs.ReadBack.{body_uncut, uncut_front}
 
 -- ---- pieces
@@ -213,6 +215,112 @@ trim_again bytes =
     let (blanks, all, split) = trail_split front in
     ap without_trailing_blanks (beginning_solid front (without_trailing_blanks front) blanks (lead_again bytes) split) ∙ trail_again front
 
+-- ---- quotes that open in their places
+
+abbrev OpenWell : ℕ → Bool → Bool → Bool → List Piece → Type 0
+OpenWell separator start after inside [] = ⊤
+OpenWell separator start after inside (p ∷ ps) = (opens_well separator start after inside p.0 ≡ true) × OpenWell separator true false false ps
+
+opens_if : (x y : Bool) → (if x then y else false) ≡ true → (x ≡ true) × (y ≡ true)
+opens_if true y h = (refl, h)
+opens_if false y h = absurd (cc)
+
+or_true : (x : Bool) → (x || true) ≡ true
+or_true true = refl
+or_true false = refl
+
+module _ (separator : ℕ) (quote : (34 == separator) ≡ false) where
+  -- a byte in front of the first piece
+  well_grows : (start after inside : Bool) (b : ℕ) (ps : List Piece) → (b == 34) ≡ true → (inside || start || after) ≡ true → OpenWell separator false true (not inside) ps → OpenWell separator start after inside (with_first b ps)
+  well_grows start after inside b [] is may h = tt
+  well_grows start after inside b (p ∷ ps) is may h = (rw (is, may) h.0, h.1)
+
+  well_goes_on : (start after inside : Bool) (b : ℕ) (ps : List Piece) → (b == 34) ≡ false → OpenWell separator (not inside && (b == separator || (start && is_blank b))) false inside ps → OpenWell separator start after inside (with_first b ps)
+  well_goes_on start after inside b [] is h = tt
+  well_goes_on start after inside b (p ∷ ps) is h = (rw is h.0, h.1)
+
+  -- each field of them opens its quotes well
+  well_cut : (start after inside : Bool) (bytes : List ℕ) → opens_well separator start after inside bytes ≡ true → OpenWell separator start after inside (cut separator true inside bytes)
+  well_cut start after inside [] h = (refl, tt)
+  well_cut start after inside (b ∷ bs) h =
+      let next = not inside && (b == separator || (start && is_blank b)) in
+      let plain : (t : Bool) → (b == 34) ≡ t → (if t then (if inside || start || after then opens_well separator false true (not inside) bs else false) else opens_well separator next false inside bs) ≡ true
+      → OpenWell separator start after inside (with_first b (cut separator true (if t then not inside else inside) bs)) =
+      λ t. elim t as (λ t. (b == 34) ≡ t → (if t then (if inside || start || after then opens_well separator false true (not inside) bs else false) else opens_well separator next false inside bs) ≡ true
+      → OpenWell separator start after inside (with_first b (cut separator true (if t then not inside else inside) bs))) [
+        | true ↦ λ is h. (
+            let (may, more) = opens_if (inside || start || after) (opens_well separator false true (not inside) bs) h in
+            well_grows start after inside b (cut separator true (not inside) bs) is may (well_cut false true (not inside) bs more))
+        | false ↦ λ is h. well_goes_on start after inside b (cut separator true inside bs) is (well_cut next false inside bs h)
+      ] in
+      let marked : (t : Bool) → ((b == separator) && not inside) ≡ t → OpenWell separator start after inside (if t then ([], false) ∷ cut separator true false bs else with_first b (cut separator true (turned true inside b) bs)) =
+      λ t. elim t as (λ t. ((b == separator) && not inside) ≡ t → OpenWell separator start after inside (if t then ([], false) ∷ cut separator true false bs else with_first b (cut separator true (turned true inside b) bs))) [
+        | true ↦ λ is. (
+            let (same, outside) = not_inside (b == separator) inside is in
+            let calm : (b == 34) ≡ false = not_quote separator b quote same in
+            let first : opens_well separator true false false bs ≡ true = rw (calm, same, outside) at h in
+            (refl, well_cut true false false bs first))
+        | false ↦ λ is. plain (b == 34) refl h
+      ] in
+      marked ((b == separator) && not inside) refl
+
+  well_found : (k : ℕ) (ps : List Piece) (bytes : List ℕ) → OpenWell separator true false false ps → piece_at k ps ≡ Some bytes → opens_well separator true false false bytes ≡ true
+  well_found k [] bytes h is = absurd (cc)
+  well_found zero (p ∷ ps) bytes h is = subst (λ l. opens_well separator true false false l ≡ true) (ap (λ o. unwrap_or o p.0) is) h.0
+  well_found (suc k) (p ∷ ps) bytes h is = well_found k ps bytes h.1 is
+
+  -- without blanks at the ends
+  well_led : (bytes : List ℕ) → opens_well separator true false false bytes ≡ true → opens_well separator true false false (without_leading_blanks bytes) ≡ true
+  well_led [] h = refl
+  well_led (b ∷ bs) h =
+      let go : (t : Bool) → is_blank b ≡ t → opens_well separator true false false (if t then without_leading_blanks bs else b ∷ bs) ≡ true =
+      λ t. elim t as (λ t. is_blank b ≡ t → opens_well separator true false false (if t then without_leading_blanks bs else b ∷ bs) ≡ true) [
+        | true ↦ λ is. (
+            let calm : (b == 34) ≡ false = no_quote_at b (b == 34) refl is in
+            let next : opens_well separator (b == separator || true) false false bs ≡ true = rw (calm, is) at h in
+            well_led bs (subst (λ o. opens_well separator o false false bs ≡ true) (or_true (b == separator)) next))
+        | false ↦ λ is. h
+      ] in
+      go (is_blank b) refl
+
+  well_front : (start after inside : Bool) (xs ys : List ℕ) → opens_well separator start after inside (xs ++ ys) ≡ true → opens_well separator start after inside xs ≡ true
+  well_front start after inside [] ys h = refl
+  well_front start after inside (x ∷ xs) ys h =
+      let next = not inside && (x == separator || (start && is_blank x)) in
+      let go : (t : Bool) → (if t then (if inside || start || after then opens_well separator false true (not inside) (xs ++ ys) else false) else opens_well separator next false inside (xs ++ ys)) ≡ true
+      → (if t then (if inside || start || after then opens_well separator false true (not inside) xs else false) else opens_well separator next false inside xs) ≡ true =
+      λ t. elim t as (λ t. (if t then (if inside || start || after then opens_well separator false true (not inside) (xs ++ ys) else false) else opens_well separator next false inside (xs ++ ys)) ≡ true
+      → (if t then (if inside || start || after then opens_well separator false true (not inside) xs else false) else opens_well separator next false inside xs) ≡ true) [
+        | true ↦ λ h. (
+            let (may, more) = opens_if (inside || start || after) (opens_well separator false true (not inside) (xs ++ ys)) h in
+            rw may (well_front false true (not inside) xs ys more))
+        | false ↦ λ h. well_front next false inside xs ys h
+      ] in
+      go (x == 34) h
+
+  well_trimmed : (bytes : List ℕ) → opens_well separator true false false bytes ≡ true → opens_well separator true false false (trimmed bytes) ≡ true
+  well_trimmed bytes h =
+      let front = without_leading_blanks bytes in
+      let (blanks, all, split) = trail_split front in
+      well_front true false false (trimmed bytes) blanks (ap (opens_well separator true false false) (sym split) ∙ well_led bytes h)
+
+  -- bytes without blanks at their beginning are not padded
+  not_padded : (bytes : List ℕ) → without_leading_blanks bytes ≡ bytes → is_padded bytes ≡ false
+  not_padded [] h = refl
+  not_padded (x ∷ xs) h = rw (first_solid x xs (is_blank x) refl h) refl
+
+  -- a field of sound quotes
+  trimmed_sound : (row field : List ℕ) (k : ℕ) → quotes_are_sound separator row ≡ true → piece_at k (cut separator true false row) ≡ Some field → is_uncut separator true false (trimmed field) ≡ true
+      → inside_after true false (trimmed field) ≡ false → quotes_are_sound separator (trimmed field) ≡ true
+  trimmed_sound row field k sound is uncut closed =
+      let (opens, alike) = two_hold (opens_well separator true false false row) _ sound in
+      let well = well_trimmed field (well_found k (cut separator true false row) field (well_cut true false false row opens) is) in
+      let front = without_leading_blanks field in
+      let (blanks, all, split) = trail_split front in
+      let solid : without_leading_blanks (trimmed field) ≡ trimmed field = beginning_solid front (without_trailing_blanks front) blanks (lead_again field) split in
+      let same : is_read_alike separator (trimmed field) ≡ true = rw (not_padded (trimmed field) solid) refl in
+      rw (well, alike_last separator (trimmed field) false (record { uncut = uncut; inside_is = closed })) same
+
 -- ---- a byte order mark
 
 -- a property that bytes keep without a first byte that is no quote
@@ -249,15 +357,21 @@ closed_less quotes b bs calm h = ap (λ o. inside_after quotes o bs) (sym calm) 
 -- ---- the name in a row
 
 -- a row that is no malformed one
-faultless : (a b c d : Bool) (w x y z : RowFault) → (if a then Some w else if b then Some x else if c then Some y else if d then Some z else None) ≡ None → (b ≡ false) × (c ≡ false)
+faultless : (a b c d : Bool) (w x y z : RowFault) → (if a then Some w else if b then Some x else if c then Some y else if d then Some z else None) ≡ None → (b ≡ false) × (c ≡ false) × (d ≡ false)
 faultless true b c d w x y z h = absurd (cc)
 faultless false true c d w x y z h = absurd (cc)
 faultless false false true d w x y z h = absurd (cc)
-faultless false false false d w x y z h = (refl, refl)
+faultless false false false true w x y z h = absurd (cc)
+faultless false false false false w x y z h = (refl, refl, refl)
 
 no_return : (quotes : Bool) (bytes : List ℕ) → (quotes && not (is_uncut 13 true false bytes)) ≡ false → quotes ≡ true → is_uncut 13 quotes false bytes ≡ true
 no_return true bytes h is = let go : (t : Bool) → (not t) ≡ false → t ≡ true = λ t. elim t as (λ t. (not t) ≡ false → t ≡ true) [ true ↦ λ h. refl | false ↦ λ h. absurd (cc) ] in go (is_uncut 13 true false bytes) h
 no_return false bytes h is = absurd (cc)
+
+all_sound : (quotes sound : Bool) → (quotes && not sound) ≡ false → quotes ≡ true → sound ≡ true
+all_sound true true h is = refl
+all_sound true false h is = absurd (cc)
+all_sound false sound h is = absurd (cc)
 
 module _ (table : Table) (quote : (34 == table.form.separator) ≡ false) where
   abbrev separator : ℕ
@@ -280,17 +394,19 @@ module _ (table : Table) (quote : (34 == table.form.separator) ≡ false) where
     on_line : is_uncut 10 quotes false row ≡ true
     returnless : quotes ≡ true → is_uncut 13 quotes false row ≡ true
     closed : inside_after quotes false row ≡ false
+    sound : quotes ≡ true → quotes_are_sound separator row ≡ true
 
   row_is : (n : ℕ) (p : Piece) → IsPiece 10 quotes 0 false false p → malformed table.form n p ≡ None → IsRow (read_of n (row_body p.0))
   row_is n p piece good =
       let (uncut, after, more) = piece in
-      let (returns, ended) = faultless _ _ _ _ _ _ _ _ good in
+      let (returns, ended, stray) = faultless _ _ _ _ _ _ _ _ good in
       let body = row_body p.0 in
       let u = body_uncut quotes p.0 (record { uncut = uncut; inside_is = after ∙ ended }) in
       record {
         on_line = read_keeps quotes (λ l. is_uncut 10 quotes false l ≡ true) (uncut_less 10 quotes) n body u.uncut;
         returnless = λ is. read_keeps quotes (λ l. is_uncut 13 quotes false l ≡ true) (uncut_less 13 quotes) n body (no_return quotes body returns is);
         closed = read_keeps quotes (λ l. inside_after quotes false l ≡ false) (closed_less quotes) n body u.inside_is;
+        sound = all_sound quotes (quotes_are_sound separator (read_of n body)) stray;
       }
 
   field_is : (row field : List ℕ) (k : ℕ) → IsRow row → piece_at k (cut separator quotes false row) ≡ Some field → IsOneField separator quotes (trimmed field)
@@ -299,12 +415,16 @@ module _ (table : Table) (quote : (34 == table.form.separator) ≡ false) where
       let returns = cut_pieces separator quotes 13 quotes quote false row (λ a. (r.returnless a, r.closed)) in
       let (uncut, more) = piece_found separator quotes 10 true quote k (cut separator quotes false row) field lines is in
       let (same, others) = piece_found separator quotes 13 quotes quote k (cut separator quotes false row) field returns is in
+      let whole = trim_uncut separator quotes field uncut in
+      let outside = trim_closed quotes field (more refl).1 in
       record {
-        uncut = trim_uncut separator quotes field uncut;
+        uncut = whole;
         on_line = trim_uncut 10 quotes field (more refl).0;
         returnless = λ a. trim_uncut 13 quotes field (others a).0;
-        closed = trim_closed quotes field (more refl).1;
+        closed = outside;
         trims = trim_again field;
+        sound = λ a. trimmed_sound separator quote row field k (r.sound a) (subst (λ q. piece_at k (cut separator q false row) ≡ Some field) a is)
+            (subst (λ q. is_uncut separator q false (trimmed field) ≡ true) a whole) (subst (λ q. inside_after q false (trimmed field) ≡ false) a outside);
       }
 
   name_is : (row name : List ℕ) (k : ℕ) → IsRow row → name_at table.form k row ≡ Some name → IsOneField separator quotes name

@@ -1,9 +1,9 @@
 -- How the answering of rows ends.
-use Rattle.std.proofs.Common.{◌≡◌, ℕ, ◌^◌, ◌⊎◌, Bool, true, List, [], ◌++◌, length, Option, Result, Ok, Err, sym, refl, subst, inl, inr}
+use Rattle.std.proofs.Common.{◌≡◌, ℕ, ◌^◌, ◌⊎◌, Bool, true, List, [], ◌++◌, length, Option, Result, Ok, Err, sym, ap, ◌∙◌, refl, subst, inl, inr}
 use Rattle.h3_lines.specs.Answer.{Answer, written}
 use Rattle.h3_lines.specs.Answering.{Answered, RefusesEach}
 use Rattle.h3_lines.specs.Ending.{AnswersAll}
-use Rattle.h3_lines.specs.EndingLaws.{ends_early as early, last_written}
+use Rattle.h3_lines.specs.EndingLaws.{begun_written, ends_early as early, last_written}
 use Rattle.h3_lines.specs.Pieces.{Piece, pieces_of}
 use Rattle.h3_lines.specs.Splitting.{Completes, StopsReading, StopsTaking, TakesEnded}
 use Rattle.h3_lines.specs.SplittingLaws.{ended_refused}
@@ -11,7 +11,7 @@ use Rattle.h3_lines.specs.Write.{SinkUse, Writes, sink_use}
 use Rattle.h3_lines.specs.declared.run_error.Fault.TheVariants.{Memory, Read, Write}
 use Rattle.h3_lines.specs.declared.run_error.RunError.{RunError}
 use Rattle.h3_lines.specs.declared.run_error.RunError.TheVariants.{Error, Fault}
-use Rattle.h3_rows.specs.Each.{EndsRows, EndsRowsEarly, by_rows}
+use Rattle.h3_rows.specs.Each.{EndsRows, EndsRowsEarly, EndsRowsLate, by_rows}
 use Rattle.h3_rows.specs.Row.{list_rows}
 use Rattle.h3_rows.specs.RowsAnswer.{Form, State, begun_answer, end_of, rows_answer, rows_then, start}
 use Rattle.h3_rows.proofs.LastRow.{list_completes}
@@ -75,14 +75,28 @@ module _ {S V : Type 0} (qs : Bool) (taken : S → Option (List ℕ)) (failed : 
           writes = subst (λ ls. Writes (answer_of v last (state v) ls) r (sink_use taken failed (out v) u)) (sym rows) (last_written taken failed (answer_of v) answered none (empty x settles) last u r end);
         }
 
+    -- no row ended the answer
+    none_ended : (answer_of v nothing_last (state v) (list_rows qs t.bytes)).ending ≡ Ok tt
+    unfolding Writes
+    none_ended =
+        let begun = begun_written taken failed (answer_of v) answered none (empty x settles) nothing_last (none_left v nothing_last (state x)) in
+        ap (λ ls. (answer_of v nothing_last (state v) ls).ending) rows ∙ begun.0
+
+  ends_at_end : (last : State → Answer) (v w x : V) (u : S) {left : List ℕ} {inside : Bool} (old new : Option (List ℕ)) (e : RunError) (more : List Piece) → held v ≡ [] → (t : TakesEnded qs 1114111 takes v w left inside old new (2 ^ 40) 65536)
+      → list_rows qs t.bytes ≡ t.ended ++ more → Answered taken failed (answer_of v) (state v) (state x) (held v) (held x) (out v) (out x) (t.ended ++ more) → settled x
+      → Writes (last (state x)) (Err e) (sink_use taken failed (out x) u) → EndsRowsLate qs (answer_of v last (state v)) (answer_of v nothing_last (state v)) old new e (sink_use taken failed (out v) u)
+  unfolding all_answered
+  ends_at_end last v w x u old new e more none t rows answered settles writes =
+      (all_answered last v w x u old new (Err e) more none t rows answered settles writes, none_ended last v w x u old new (Err e) more none t rows answered settles writes)
+
   -- all rows are answered, and then what is last is written
   pub ends_late : (last : State → Answer) (v w x : V) (u : S) {left : List ℕ} {inside : Bool} (old new : Option (List ℕ)) (had has : Bool) (r : Result (Unit {0}) RunError) (more : List Piece) → held v ≡ [] → (t : TakesEnded qs 1114111 takes v w left inside old new (2 ^ 40) 65536)
       → list_rows qs t.bytes ≡ t.ended ++ more → Answered taken failed (answer_of v) (state v) (state x) (held v) (held x) (out v) (out x) (t.ended ++ more) → settled x → has ≡ had
       → Writes (last (state x)) r (sink_use taken failed (out x) u) → EndsRows qs (answer_of v last (state v)) (answer_of v nothing_last (state v)) old new had has r (sink_use taken failed (out v) u)
   unfolding Writes
   ends_late last v w x u old new had has (Ok y) more none t rows answered settles sound writes = (sound, all_answered last v w x u old new (Ok y) more none t rows answered settles writes)
-  ends_late last v w x u old new had has (Err (Error e)) more none t rows answered settles sound writes = (sound, inl (all_answered last v w x u old new (Err (Error e)) more none t rows answered settles writes))
-  ends_late last v w x u old new had has (Err (Fault Write)) more none t rows answered settles sound writes = (sound, inl (all_answered last v w x u old new (Err (Fault Write)) more none t rows answered settles writes))
+  ends_late last v w x u old new had has (Err (Error e)) more none t rows answered settles sound writes = (sound, inl (ends_at_end last v w x u old new (Error e) more none t rows answered settles writes))
+  ends_late last v w x u old new had has (Err (Fault Write)) more none t rows answered settles sound writes = (sound, inl (ends_at_end last v w x u old new (Fault Write) more none t rows answered settles writes))
   ends_late last v w x u old new had has (Err (Fault Read)) more none t rows answered settles sound never = absurd never
   ends_late last v w x u old new had has (Err (Fault Memory)) more none t rows answered settles sound never = absurd never
 

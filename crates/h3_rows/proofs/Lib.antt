@@ -9,6 +9,7 @@ pub mod Feeds
 pub mod Finding
 pub mod Kept
 pub mod LastRow
+pub mod Marks
 pub mod Masks
 pub mod NamesKept
 pub mod Naming

@@ -1,5 +1,5 @@
 -- The names of new columns, put one after another.
-use Rattle.std.proofs.Common.{◌≡◌, ℕ, nat_eq, ◌≤◌, ◌&&◌, Bool, true, false, length, take, drop, arith, subst, Ok, List, [], ◌∷◌, ◌++◌, Option, Some, sym, ap, ◌∙◌, refl, append-nil, append_assoc}
+use Rattle.std.proofs.Common.{◌≡◌, ℕ, nat_eq, ◌≤◌, ◌&&◌, Bool, true, false, length, take, drop, arith, subst, Ok, List, [], ◌∷◌, ◌++◌, Option, Some, Result, sym, ap, ◌∙◌, refl, append-nil, append_assoc}
 use Rattle.std.proofs.lemmas.Grind.{flat_map-append}
 use Rattle.std.specs.List.{flat_map}
 use Rattle.std.specs.Str.{bytes_eq}
@@ -7,10 +7,11 @@ use Rattle.h3_lines.specs.Answer.{Answer}
 use Rattle.h3_lines.specs.Answering.{Moves}
 use Rattle.h3_rows.specs.Answering.{PutsBeside, PutsCell, listed}
 use Rattle.h3_rows.specs.Line.{line_of}
-use Rattle.h3_rows.specs.Row.{row_body, row_ending}
-use Rattle.h3_rows.specs.RowsAnswer.{Form, answer_said, answered_with, error_field, row_said, rows_with, unanswered}
+use Rattle.h3_rows.specs.Row.{row_ending}
+use Rattle.h3_rows.specs.RowsAnswer.{Form, answer_said, answered_with, error_field, rows_with, unanswered}
+use Rattle.h3_rows.specs.declared.said.Said.{Said}
 use Rattle.h3_rows.specs.declared.said.Said.TheVariants.{Index}
-use Rattle.h3_rows.specs.declared.state.Columns.{Columns}
+use Rattle.h3_lines.specs.declared.run_error.RowFault.{RowFault}
 use Rattle.h3_rows.specs.declared.row.Row.{Row}
 use Rattle.h3_rows.proofs.Returns.{body_of_row}
 
@@ -54,11 +55,11 @@ unanswered_parts form r name =
     ∙ ap (λ l. l ++ (form.separator ∷ ((form.empty ++ error_field form name) ++ row_ending (line_of r)))) (sym (body_of_row r.body.now r.returns r.bare))
 
 -- a row with the answers to its cell, which are put beside it
-pub puts_cell : {S : Type 0} (form : Form) (answer : Option ℕ → Answer) (number : ℕ) (columns : Columns) (line held held' after : List ℕ) (index : ℕ) (taken : S → Option (List ℕ)) (failed : S → Bool) (x y : S)
-    → row_said form number columns (row_body line) ≡ Ok (Index index) → after ≡ error_field form [] → PutsBeside taken failed (answer (Some index)) form.separator after line held held' x y
-    → PutsCell taken failed (λ s. answer_said form answer s line (row_said form number columns (row_body line))) line held held' x y
-puts_cell form answer number columns line held held' after index taken failed x y said is puts = record {
+pub puts_cell : {S : Type 0} (form : Form) (answer : Option ℕ → Answer) (said : Result Said RowFault) (line held held' after : List ℕ) (index : ℕ) (taken : S → Option (List ℕ)) (failed : S → Bool) (x y : S)
+    → said ≡ Ok (Index index) → after ≡ error_field form [] → PutsBeside taken failed (answer (Some index)) form.separator after line held held' x y
+    → PutsCell taken failed (λ s. answer_said form answer s line said) line held held' x y
+puts_cell form answer said line held held' after index taken failed x y says is puts = record {
   text = answered_with form line puts.text;
-  is = λ s. rw (said, puts.is) refl;
+  is = λ s. rw (says, puts.is) refl;
   moves = subst (λ l. Moves taken failed (held ++ rows_with form.separator l line puts.text) held' x y) is puts.moves;
 }

@@ -16,7 +16,7 @@ use Rattle.h3_lines.specs.Answering.{Answered}
 use Rattle.h3_rows.specs.Answering.{PutsPlain, held_of, state_of}
 use Rattle.h3_rows.specs.Lanes.{IsOneLine}
 use Rattle.h3_rows.specs.Plain.{IsPlainField, IsPlainRow}
-use Rattle.h3_rows.specs.Row.{field_text, is_empty_row, next_number, read_of, returns_of, row_body, unquoted}
+use Rattle.h3_rows.specs.Row.{field_text, is_empty_row, next_number, read_of, returns_of, row_body, unmarked, unquoted}
 use Rattle.h3_rows.specs.RowsAnswer.{Form, Step, answered_with, goes_on, malformed, row_said, row_step, row_with, rows_then, text_said}
 use Rattle.h3_lines.specs.Pieces.{CutsAt, pieces_of}
 use Rattle.h3_rows.specs.declared.said.Said.TheVariants.{Index}
@@ -26,6 +26,7 @@ use Rattle.h3_rows.proofs.Beside.{first_with, last_with}
 use Rattle.h3_rows.proofs.Blanks.{other_last}
 use Rattle.h3_lines.specs.PiecesLaws.{cut_at_mark, uncut_none}
 use Rattle.h3_rows.proofs.WholeFields.{feedless_uncut, row_bare, row_feeds, row_returnless, row_sound, row_uncut}
+use Rattle.h3_rows.proofs.Marks.{later_mark, later_unmarked}
 use Rattle.h3_rows.proofs.Returns.{body_of_row, returns_of_row, row_length}
 use Rattle.h3_rows.proofs.Steps.{passed_is}
 use Rattle.h3_rows.proofs.Texts.{text_said_parsed}
@@ -112,7 +113,8 @@ module _ (form : Form) (answer : Option ℕ → Answer) (s : RowState) (k : Colu
     steps index text plain is =
         let long : (length row == 0) ≡ false = grind (arith, nat_tests) in
         let filled : is_empty_row s.number row ≡ false = ap (λ l. length l == 0) read ∙ long in
-        rw (known, sound, body, filled, said index plain, is) refl
+        let bare : unmarked s.number line ≡ line = later_unmarked s.number line not_first in
+        rw (known, sound, bare, body, filled, later_mark s.number row not_first, said index plain, is) refl
 
     one_row : (text : List ℕ) (l : IsOneLine text) → answered_with form line text
         ≡ row ++ (form.separator ∷ (l.line ++ (replicate n 13 ++ 10 ∷ [])))

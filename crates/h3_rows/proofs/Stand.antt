@@ -15,12 +15,13 @@ use Rattle.h3_lines.specs.declared.run_error.RowFault.{RowFault}
 use Rattle.h3_lines.specs.RunError.{row_error_name}
 use Rattle.h3_rows.specs.Laws.{HeaderStands, IsWholeOrRefused, RowsGiveBack, RowsStand, RowsStandUntil, answered_so, numbered, own_lines, with_own}
 use Rattle.h3_lines.specs.Pieces.{Piece, cut, pieces_of, rows_of, turned, with_first, without_last_nothing}
-use Rattle.h3_rows.specs.Row.{is_empty_row, lacking_last, next_number, read_of, row_body}
-use Rattle.h3_rows.specs.RowsAnswer.{Form, State, Step, answer_said, beside, columns_in, ends, faulty, free_columns, goes_on, header_step, header_with, malformed, row_said, row_step, rows_then, unanswered}
+use Rattle.h3_rows.specs.Row.{is_empty_row, lacking_last, mark_of, next_number, read_of, row_body, unmarked}
+use Rattle.h3_rows.specs.RowsAnswer.{Form, State, Step, answer_said, begun_with, beside, columns_in, ends, faulty, free_columns, goes_on, header_step, header_with, malformed, marked, row_said, row_step, rows_then, unanswered}
 use Rattle.h3_rows.specs.declared.state.Columns.{Columns}
 use Rattle.h3_rows.specs.declared.said.Said.{Said}
 use Rattle.h3_rows.specs.declared.said.Said.TheVariants.{Index, Missing}
 use Rattle.h3_lines.specs.PiecesLaws.{first_piece}
+use Rattle.h3_rows.proofs.Marks.{next_unmarked}
 
 -- a step that ends nothing: its text, the number after it, and that the fields before the cell's and the rows that are
 -- held back are the same
@@ -56,6 +57,16 @@ said_stands form answer s line (Err fault) good = faulty_stands form s line (row
 said_stands form answer s line (Ok Missing) good = record { ending = refl; output = refl; number = refl; columns = refl; pending = refl }
 said_stands form answer s line (Ok (Index index)) good = beside_stands form s line (answer (Some index)).output (answer (Some index)).ending good
 
+-- the same after a mark
+marked_stands : (mark : List ℕ) (step : Step) (s : State) (line whole text : List ℕ) → next_number s.number line ≡ next_number s.number whole → StepStands step s line text → StepStands (marked mark step) s whole (mark ++ text)
+marked_stands mark step s line whole text feeds h = record {
+  ending = h.ending;
+  output = let written : begun_with mark step.answer.ending step.answer.output ≡ mark ++ step.answer.output = rw h.ending refl in written ∙ ap (λ l. mark ++ l) h.output;
+  number = h.number ∙ feeds;
+  columns = h.columns;
+  pending = h.pending;
+}
+
 -- a row after a header
 row_stands : (form : Form) (answer : Option ℕ → Answer) (k : Columns) (s : State) (p : Piece) (m : Option RowFault) (e : Bool) → s.columns ≡ Some k → malformed form s.number p ≡ m → (is_empty_row s.number (row_body p.0)) ≡ e → (row_step form answer s p).answer.ending ≡ Ok tt
     → StepStands (row_step form answer s p) s p.0 (own_lines form answer k (s.number, p))
@@ -66,9 +77,14 @@ row_stands form answer k s p None true known sound empty good =
     subst (λ x. StepStands x s p.0 (own_lines form answer k (s.number, p))) (sym is) (subst (λ l. StepStands (goes_on s p.0 (p.0 ++ 10 ∷ [])) s p.0 l) (sym text) (record { ending = refl; output = refl; number = refl; columns = refl; pending = refl }))
 row_stands form answer k s p None false known sound empty good =
     let said = row_said form s.number k (row_body p.0) in
-    let is : row_step form answer s p ≡ answer_said form answer s p.0 said = rw (sound, empty, known) refl in
-    let text : own_lines form answer k (s.number, p) ≡ with_own form answer p.0 said = rw empty refl in
-    subst (λ x. StepStands x s p.0 (own_lines form answer k (s.number, p))) (sym is) (subst (λ l. StepStands (answer_said form answer s p.0 said) s p.0 l) (sym text) (said_stands form answer s p.0 said (subst (λ x. x.answer.ending ≡ Ok tt) is good)))
+    let mark = mark_of s.number (row_body p.0) in
+    let line = unmarked s.number p.0 in
+    let step = answer_said form answer s line said in
+    let is : row_step form answer s p ≡ marked mark step = rw (sound, empty, known) refl in
+    let text : own_lines form answer k (s.number, p) ≡ mark ++ with_own form answer line said = rw empty refl in
+    let stands = marked_stands mark step s line p.0 (with_own form answer line said) (next_unmarked s.number p.0)
+    (said_stands form answer s line said (subst (λ x. x.answer.ending ≡ Ok tt) is good)) in
+    subst (λ x. StepStands x s p.0 (own_lines form answer k (s.number, p))) (sym is) (subst (λ l. StepStands (marked mark step) s p.0 l) (sym text) stands)
 
 -- the error of the first answer is that of both
 first_good : (output : List ℕ) (r : Result (Unit {0}) AnswerError) (next : Answer) → (then_answer output r next).ending ≡ Ok tt → (r ≡ Ok tt) × (next.ending ≡ Ok tt)
@@ -110,8 +126,11 @@ row_silent form answer k s p (Some fault) e by refuses known none fails empty ba
 row_silent form answer k s p None true by refuses known none sound empty bad = absurd (let stops : (let r : Result (Unit {0}) AnswerError = Ok tt in r) ≡ Err by = rw (sound, empty, known) at bad in cc)
 row_silent form answer k s p None false by refuses known none sound empty bad =
     let said = row_said form s.number k (row_body p.0) in
-    let is : row_step form answer s p ≡ answer_said form answer s p.0 said = rw (sound, empty, known) refl in
-    subst (λ x. x.answer.output ≡ []) (sym is) (said_silent form answer s p.0 said by refuses none (subst (λ x. x.answer.ending ≡ Err by) is bad))
+    let line = unmarked s.number p.0 in
+    let step = answer_said form answer s line said in
+    let is : row_step form answer s p ≡ marked (mark_of s.number (row_body p.0)) step = rw (sound, empty, known) refl in
+    let fails : step.answer.ending ≡ Err by = subst (λ x. x.answer.ending ≡ Err by) is bad in
+    subst (λ x. x.answer.output ≡ []) (sym is) (rw fails (said_silent form answer s line said by refuses none fails))
 
 pub rows_stand_until : RowsStandUntil
 rows_stand_until form answer k s [] refuses known none = ([], [], refl, refl, λ good. refl)

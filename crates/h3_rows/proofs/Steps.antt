@@ -17,7 +17,7 @@ use Rattle.h3_lines.specs.Answering.{Answered, Breaks, EndsBy, Moves}
 use Rattle.h3_lines.specs.EachLaws.{answered_by, breaks_ends, moves_all, moves_none}
 use Rattle.h3_rows.specs.Answering.{StepEnds, StepsTo, held_of, pending_of, state_of}
 use Rattle.h3_lines.specs.Pieces.{Piece}
-use Rattle.h3_rows.specs.Row.{next_number, row_body}
+use Rattle.h3_rows.specs.Row.{next_number, read_of, row_body}
 use Rattle.h3_rows.specs.RowsAnswer.{Form, State, Step, empty_step, ends, faulty, goes_on, header_step, header_with, malformed, one_more, passed, row_step, unanswered}
 use Rattle.h3_rows.specs.declared.state.Columns.{Columns}
 use Rattle.h3_rows.specs.declared.state.RowState.{RowState}
@@ -120,7 +120,7 @@ breaks_empty s line bytes e sink none many b next =
 pub long_is_malformed : (form : Form) (n : ℕ) (p : Piece) → 1114111 < length p.0 → malformed form n p ≡ Some TooLong
 long_is_malformed form n p long =
     let more : nat_lt 1114111 (length p.0) ≡ true = grind (arith, nat_tests) in
-    rw (more, or_true (nat_lt 1048575 (length (row_body p.0)))) refl
+    rw (more, or_true (nat_lt 1048575 (length (read_of n (row_body p.0))))) refl
 
 pub long_ends : (form : Form) (answer : Option ℕ → Answer) (s : State) (p : Piece) → 1114111 < length p.0 → row_step form answer s p ≡ ends s (row_error.Bad TooLong)
 long_ends form answer s p long = rw (long_is_malformed form s.number p long) refl

@@ -11,10 +11,10 @@ use Rattle.h3_lines.specs.declared.run_error.Fault.TheVariants.{Memory, Read, Wr
 use Rattle.h3_lines.specs.declared.run_error.RunError.{RunError}
 use Rattle.h3_lines.specs.declared.run_error.RunError.TheVariants.{Error, Fault}
 use Rattle.h3_lines.specs.Pieces.{Piece, rows_of}
-use Rattle.h3_lines.specs.Splitting.{StopsReading, StopsTaking, TakesAll}
+use Rattle.h3_lines.specs.Splitting.{RefusesAfter, StopsReading, StopsTaking, TakesAll}
 use Rattle.h3_lines.specs.Taking.{HaveCells, RefusesCells, cells_before}
 use Rattle.h3_lines.specs.TakingLaws.{have_all, refuses_after}
-use Rattle.h3_rows.specs.Cells.{AllRowsRead, RefusesRows, RowsReadTo, begun_cells, cells_end, cells_of, cells_then}
+use Rattle.h3_rows.specs.Cells.{AllRowsRead, RefusesRows, RefusesRowsAtEnd, RefusesRowsInPage, RowsReadTo, begun_cells, cells_end, cells_of, cells_then}
 use Rattle.h3_rows.specs.CellsIn.{cells_in}
 use Rattle.h3_rows.specs.RowForm.{form_of}
 use Rattle.h3_rows.specs.RowsAnswer.{Form, columns_first}
@@ -62,16 +62,33 @@ module _ {V : Type 0} (state : V → RowOptions × RowState) (taken : V → List
       ended = s.ended;
       unended = s.unended;
       rows = s.rows;
+      begun = s.begun;
       cells = s.takes.0 ++ [];
       good = no_error s.mid s.ended s.takes;
     }
 
-    stops : (e : RunError) (had has : Bool) → has ≡ had → StopsTaking (form v).quotes (rows_of (form v).quotes) 1114111 Takes Refuses Settled v w e old new (2 ^ 40) 65536 → RefusesRows (form v) old new had has e
+    -- bytes whose rows are these that were taken, and others that are refused
+    refused_by : (last : Option Columns → Result (List Address) AnswerError) (e : AnswerError) (mid : V) (ended : List Piece) (t : Takes v ended mid) (bytes : List ℕ) → RefusesAfter (rows_of (form v).quotes) Refuses mid w (Error e) ended bytes
+        → cells_then last (form v) 1 (columns_first (form v).has_header (form v).choice) (rows_of (form v).quotes bytes) ≡ Err e
+    refused_by last e mid ended t bytes r =
+        let refused : cells_in last (state v) (ended ++ r.later) ≡ Err e = refuses_after cells_in (state v) (state mid) ended r.later t.0 (Error e) t.1 r.refuses last in
+        ap (cells_then last (form v) 1 (columns_first (form v).has_header (form v).choice)) r.rows ∙ from_start last (ended ++ r.later) ∙ refused
+
+    in_page : (e : AnswerError) → StopsTaking (form v).quotes (rows_of (form v).quotes) 1114111 Takes Refuses Settled v w (Error e) old new (2 ^ 40) 65536 → RefusesRowsInPage (form v) e old new
     unfolding read_to
-    stops (Error e) had has sound s =
-        let choice = (form v).choice in
-        let refused : cells_in (cells_end choice) (state v) (s.ended ++ s.refuses.later) ≡ Err e = refuses_after cells_in (state v) (state s.mid) s.ended s.refuses.later s.takes.0 (Error e) s.takes.1 s.refuses.refuses (cells_end choice) in
-        (sound, inr (read_to (Error e) s, ap (cells_of (form v)) s.refuses.rows ∙ from_start (cells_end choice) (s.ended ++ s.refuses.later) ∙ refused))
+    in_page e s = record {
+      stop = read_to (Error e) s;
+      is = refused_by (cells_end (form v).choice) e s.mid s.ended s.takes (s.part ++ s.last ++ s.rest) s.refuses;
+      of_row = refused_by (λ b. Ok []) e s.mid s.ended s.takes (s.part ++ s.last ++ s.rest) s.refuses;
+      within = s.within;
+      known = elim s.known [
+        | inl ends ↦ inl ends
+        | inr known ↦ inr (λ after. refused_by (cells_end (form v).choice) e s.mid s.ended s.takes (s.part ++ s.last ++ after) (known after))
+      ];
+    }
+
+    stops : (e : RunError) (had has : Bool) → has ≡ had → StopsTaking (form v).quotes (rows_of (form v).quotes) 1114111 Takes Refuses Settled v w e old new (2 ^ 40) 65536 → RefusesRows (form v) old new had has e
+    stops (Error e) had has sound s = (sound, inr (in_page e s))
     stops (Fault Memory) had has sound s = (sound, read_to (Fault Memory) s)
     stops (Fault Read) had has sound s = absurd (s.refuses.refuses (λ b. Ok []))
     stops (Fault Write) had has sound s = absurd (s.refuses.refuses (λ b. Ok []))
@@ -88,6 +105,7 @@ module _ {V : Type 0} (state : V → RowOptions × RowState) (taken : V → List
         ended = s.ended;
         unended = s.last;
         rows = s.rows;
+        begun = s.short;
         cells = s.takes.0 ++ [];
         good = no_error w s.ended s.takes;
       },
@@ -107,14 +125,18 @@ module _ {V : Type 0} (state : V → RowOptions × RowState) (taken : V → List
     read_all t good = record { list = t.bytes; held = t.held; told = t.told; within = t.within; is = whole t ∙ ap (cells_before t.takes.0) good ∙ ap Ok (append-nil t.takes.0) }
 
     -- all rows are read, and the header did not come
-    pub read_none : (t : TakesAll (rows_of (form v).quotes) Takes v w old new (2 ^ 40) 65536) (e : AnswerError) → cells_end (form v).choice (state w).1.columns ≡ Err e → AllRowsRead (form v) (Err e) old new
-    read_none t e missed = record { list = t.bytes; held = t.held; told = t.told; within = t.within; is = whole t ∙ ap (cells_before t.takes.0) missed }
+    pub read_none : (t : TakesAll (rows_of (form v).quotes) Takes v w old new (2 ^ 40) 65536) (e : AnswerError) → cells_end (form v).choice (state w).1.columns ≡ Err e → RefusesRowsAtEnd (form v) e old new
+    read_none t e missed = record {
+      read = record { list = t.bytes; held = t.held; told = t.told; within = t.within; is = whole t ∙ ap (cells_before t.takes.0) missed };
+      cells = t.takes.0 ++ [];
+      good = no_error w (rows_of (form v).quotes t.bytes) t.takes;
+    }
 
 -- nothing is read where there is no memory
 pub no_memory : (form : Form) (old : Option (List ℕ)) (had : Bool) → RefusesRows form old old had had (Fault Memory)
 no_memory form old had =
     let (rest, held) = some_held old in
-    (refl, record { part = []; last = []; rest = rest; held = held; told = Consumes-nil old; short = omega arith; ended = []; unended = ([], false); rows = refl; cells = []; good = refl })
+    (refl, record { part = []; last = []; rest = rest; held = held; told = Consumes-nil old; short = omega arith; ended = []; unended = ([], false); rows = refl; begun = omega arith; cells = []; good = refl })
 
 -- the same of what the source is then
 pub refused_at : {R : Type 0} (left : R → Option (List ℕ)) (failed : R → Bool) (after x : R) (form : Form) (old : Option (List ℕ)) (had : Bool) (e : RunError) → x ≡ after

@@ -9,10 +9,10 @@ use Rattle.h3_lines.specs.declared.run_error.Fault.TheVariants.{Memory, Read, Wr
 use Rattle.h3_lines.specs.declared.run_error.RunError.{RunError}
 use Rattle.h3_lines.specs.declared.run_error.RunError.TheVariants.{Error, Fault}
 use Rattle.h3_lines.specs.Pieces.{Piece, rows_of}
-use Rattle.h3_lines.specs.Splitting.{StopsReading, StopsTaking, TakesAll}
+use Rattle.h3_lines.specs.Splitting.{RefusesAfter, StopsReading, StopsTaking, TakesAll}
 use Rattle.h3_lines.specs.Taking.{HaveCells, RefusesCells, cells_before}
 use Rattle.h3_lines.specs.TakingLaws.{have_all, refuses_after}
-use Rattle.h3_rows.specs.Named.{AllNamedRead, Entry, NamedReadTo, RefusesNamed, Table, begun_named, named_cells, named_end, named_then, table_first, table_of}
+use Rattle.h3_rows.specs.Named.{AllNamedRead, Entry, NamedReadTo, RefusesNamed, RefusesNamedAtEnd, RefusesNamedInPage, Table, begun_named, named_cells, named_end, named_then, table_first, table_of}
 use Rattle.h3_rows.specs.NamedIn.{named_in}
 use Rattle.h3_rows.specs.declared.table.TableColumns.{TableColumns}
 use Rattle.h3_rows.specs.declared.table.TableOptions.{TableOptions}
@@ -59,15 +59,33 @@ module _ {V : Type 0} (state : V → TableOptions × TableState) (taken : V → 
       ended = s.ended;
       unended = s.unended;
       rows = s.rows;
+      begun = s.begun;
       entries = s.takes.0 ++ [];
       good = no_error s.mid s.ended s.takes;
     }
 
-    stops : (e : RunError) (had has : Bool) → has ≡ had → StopsTaking (table v).form.quotes (rows_of (table v).form.quotes) 1114111 Takes Refuses Settled v w e old new (2 ^ 40) 65536 → RefusesNamed (table v) old new had has e
+    -- bytes whose rows are these that were taken, and others that are refused
+    refused_by : (last : Option TableColumns → Result (List Entry) AnswerError) (e : AnswerError) (mid : V) (ended : List Piece) (t : Takes v ended mid) (bytes : List ℕ) → RefusesAfter (rows_of (table v).form.quotes) Refuses mid w (Error e) ended bytes
+        → named_then last (table v) 1 (table_first (table v)) (rows_of (table v).form.quotes bytes) ≡ Err e
+    refused_by last e mid ended t bytes r =
+        let refused : named_in last (state v) (ended ++ r.later) ≡ Err e = refuses_after named_in (state v) (state mid) ended r.later t.0 (Error e) t.1 r.refuses last in
+        ap (named_then last (table v) 1 (table_first (table v))) r.rows ∙ from_start last (ended ++ r.later) ∙ refused
+
+    in_page : (e : AnswerError) → StopsTaking (table v).form.quotes (rows_of (table v).form.quotes) 1114111 Takes Refuses Settled v w (Error e) old new (2 ^ 40) 65536 → RefusesNamedInPage (table v) e old new
     unfolding read_to
-    stops (Error e) had has sound s =
-        let refused : named_in (named_end (table v)) (state v) (s.ended ++ s.refuses.later) ≡ Err e = refuses_after named_in (state v) (state s.mid) s.ended s.refuses.later s.takes.0 (Error e) s.takes.1 s.refuses.refuses (named_end (table v)) in
-        (sound, inr (read_to (Error e) s, ap (named_cells (table v)) s.refuses.rows ∙ from_start (named_end (table v)) (s.ended ++ s.refuses.later) ∙ refused))
+    in_page e s = record {
+      stop = read_to (Error e) s;
+      is = refused_by (named_end (table v)) e s.mid s.ended s.takes (s.part ++ s.last ++ s.rest) s.refuses;
+      of_row = refused_by (λ b. Ok []) e s.mid s.ended s.takes (s.part ++ s.last ++ s.rest) s.refuses;
+      within = s.within;
+      known = elim s.known [
+        | inl ends ↦ inl ends
+        | inr known ↦ inr (λ after. refused_by (named_end (table v)) e s.mid s.ended s.takes (s.part ++ s.last ++ after) (known after))
+      ];
+    }
+
+    stops : (e : RunError) (had has : Bool) → has ≡ had → StopsTaking (table v).form.quotes (rows_of (table v).form.quotes) 1114111 Takes Refuses Settled v w e old new (2 ^ 40) 65536 → RefusesNamed (table v) old new had has e
+    stops (Error e) had has sound s = (sound, inr (in_page e s))
     stops (Fault Memory) had has sound s = (sound, read_to (Fault Memory) s)
     stops (Fault Read) had has sound s = absurd (s.refuses.refuses (λ b. Ok []))
     stops (Fault Write) had has sound s = absurd (s.refuses.refuses (λ b. Ok []))
@@ -84,6 +102,7 @@ module _ {V : Type 0} (state : V → TableOptions × TableState) (taken : V → 
         ended = s.ended;
         unended = s.last;
         rows = s.rows;
+        begun = s.short;
         entries = s.takes.0 ++ [];
         good = no_error w s.ended s.takes;
       },
@@ -103,14 +122,18 @@ module _ {V : Type 0} (state : V → TableOptions × TableState) (taken : V → 
     read_all t good = record { list = t.bytes; held = t.held; told = t.told; within = t.within; is = whole t ∙ ap (cells_before t.takes.0) good ∙ ap Ok (append-nil t.takes.0) }
 
     -- all rows are read, and the header did not come
-    pub read_none : (t : TakesAll (rows_of (table v).form.quotes) Takes v w old new (2 ^ 40) 65536) (e : AnswerError) → named_end (table v) (state w).1.columns ≡ Err e → AllNamedRead (table v) (Err e) old new
-    read_none t e missed = record { list = t.bytes; held = t.held; told = t.told; within = t.within; is = whole t ∙ ap (cells_before t.takes.0) missed }
+    pub read_none : (t : TakesAll (rows_of (table v).form.quotes) Takes v w old new (2 ^ 40) 65536) (e : AnswerError) → named_end (table v) (state w).1.columns ≡ Err e → RefusesNamedAtEnd (table v) e old new
+    read_none t e missed = record {
+      read = record { list = t.bytes; held = t.held; told = t.told; within = t.within; is = whole t ∙ ap (cells_before t.takes.0) missed };
+      entries = t.takes.0 ++ [];
+      good = no_error w (rows_of (table v).form.quotes t.bytes) t.takes;
+    }
 
 -- nothing is read where there is no memory
 pub no_memory : (table : Table) (old : Option (List ℕ)) (had : Bool) → RefusesNamed table old old had had (Fault Memory)
 no_memory table old had =
     let (rest, held) = some_held old in
-    (refl, record { part = []; last = []; rest = rest; held = held; told = Consumes-nil old; short = omega arith; ended = []; unended = ([], false); rows = refl; entries = []; good = refl })
+    (refl, record { part = []; last = []; rest = rest; held = held; told = Consumes-nil old; short = omega arith; ended = []; unended = ([], false); rows = refl; begun = omega arith; entries = []; good = refl })
 
 -- the same of what the source is then
 pub refused_at : {R : Type 0} (left : R → Option (List ℕ)) (failed : R → Bool) (after x : R) (table : Table) (old : Option (List ℕ)) (had : Bool) (e : RunError) → x ≡ after

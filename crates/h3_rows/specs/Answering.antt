@@ -1,5 +1,5 @@
 -- How a row is put into the block and answered. Private contracts and proofs alone cite this file.
-use Rattle.std.specs.Prelude.{◌≡◌, ℕ, ◌+◌, ◌==◌, Bool, false, List, [], ◌∷◌, ◌++◌, length, replicate, Option, None, Some}
+use Rattle.std.specs.Prelude.{◌≡◌, ℕ, ◌+◌, ◌==◌, Bool, false, List, [], ◌∷◌, ◌++◌, length, take, drop, replicate, Option, None, Some}
 use Rattle.std.specs.List.{count_by}
 use Rattle.h3_lines.specs.Answer.{Answer, before, written}
 use Rattle.h3_lines.specs.Answering.{Breaks, EndsBy, Moves}
@@ -74,6 +74,10 @@ pub record PutsPlain (form : Form) (answer : Option ℕ → Answer) (s : RowStat
   pub text : List ℕ
   pub is : row_step form answer (state_of s held) (row, false) ≡ goes_on (state_of s held) row text
   pub put : held' ≡ held ++ text
+
+-- the bytes of a block from one place on, so many
+abbrev pub mark_in : ℕ → ℕ → List ℕ → List ℕ
+mark_in end size block = drop end (take (end + size) block)
 
 -- ---- the answer to a row's cell
 

@@ -5,7 +5,7 @@ use Rattle.h3_index.specs.Cell.{Address}
 use Rattle.h3_index.specs.Text.{trimmed}
 use Rattle.h3_lines.specs.Pieces.{inside_after, is_uncut, rows_of}
 use Rattle.h3_rows.specs.Named.{Entry, Table, named_cells}
-use Rattle.h3_rows.specs.Row.{field_text, unquoted}
+use Rattle.h3_rows.specs.Row.{field_text, quotes_are_sound, unquoted}
 
 -- ---- named cells
 
@@ -13,7 +13,7 @@ use Rattle.h3_rows.specs.Row.{field_text, unquoted}
 abbrev pub NamedCell : Type 0
 NamedCell = Address × List ℕ
 
--- named_before cell name later: a cell with this name before the others; a header has none
+-- named_before cell name later: a cell with this name before the others; the name of a header has no cell, and is left out
 abbrev pub named_before : Option Address → List ℕ → List NamedCell → List NamedCell
 named_before None name later = later
 named_before (Some cell) name later = (cell, name) ∷ later
@@ -23,7 +23,7 @@ abbrev pub cells_among : List Entry → List NamedCell
 cells_among [] = []
 cells_among (e ∷ es) = named_before e.0 e.1 (cells_among es)
 
--- title_with title cell name: the name in a header, if this has no cell
+-- title_with title cell name: this name, if it has no cell, as that of a header; else the title as it is
 abbrev pub title_with : Option (List ℕ) → Option Address → List ℕ → Option (List ℕ)
 title_with title None name = Some name
 title_with title (Some cell) name = title
@@ -109,14 +109,15 @@ abbrev pub AreasHaveCells : Type 0
 AreasHaveCells = (quotes : Bool) (entries : List Entry) (k : ℕ) → k < length (area_names quotes entries) → (cell : Address) × Contains (area_cells quotes entries) (cell, k)
 
 -- IsOneField separator quotes bytes: the bytes are one field, which a row may end with: outside quotes that count they have
--- no separator, no line feed and, if quotes count, no carriage return; no such quote is open at their end; and no blanks are
--- at either end
+-- no separator, no line feed and, if quotes count, no carriage return; no such quote is open at their end; no blanks are at
+-- either end; and if quotes count, those in them are sound
 pub record IsOneField (separator : ℕ) (quotes : Bool) (bytes : List ℕ) : Type 0 where
   pub uncut : is_uncut separator quotes false bytes ≡ true
   pub on_line : is_uncut 10 quotes false bytes ≡ true
   pub returnless : quotes ≡ true → is_uncut 13 quotes false bytes ≡ true
   pub closed : inside_after quotes false bytes ≡ false
   pub trims : trimmed bytes ≡ bytes
+  pub sound : quotes ≡ true → quotes_are_sound separator bytes ≡ true
 
 -- EntriesAreFields: each name that is read of a table, in a header too, is one field of its form
 abbrev pub EntriesAreFields : Type 0

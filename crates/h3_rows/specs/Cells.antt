@@ -1,5 +1,5 @@
 -- The cells of the rows of a list.
-use Rattle.std.specs.Prelude.{◌≡◌, ℕ, ◌^◌, ◌≤◌, ◌⊎◌, Bool, true, List, [], ◌∷◌, ◌++◌, length, Option, None, Some, Result, Ok, Err, if◌then◌else◌}
+use Rattle.std.specs.Prelude.{◌≡◌, ℕ, ◌*◌, ◌^◌, ◌≤◌, ◌⊎◌, Bool, true, List, [], ◌∷◌, ◌++◌, length, Option, None, Some, Result, Ok, Err, if◌then◌else◌}
 use Rattle.std.specs.Io.KnownBytes.{Consumes}
 use Rattle.h3_index.specs.Cell.{Address}
 use Rattle.h3_streams.specs.Stream.{HasLeft}
@@ -48,7 +48,7 @@ pub record Found : Type 0 where
   pub cells : Result (List Address) AnswerError
   pub columns : Option Columns
 
--- header_found columns: a header has no cell; it has the columns, or its error ends the list
+-- header_found columns: the columns that a header says, which has no cell of the list; or its error, which ends the list
 abbrev pub header_found : Result Columns ColumnError → Found
 header_found (Ok columns) = record { cells = Ok []; columns = Some columns }
 header_found (Err e) = record { cells = Err (ending_by.Column e); columns = None }
@@ -85,12 +85,13 @@ cells_end choice (Some columns) = Ok []
 cells_end (After k) None = Ok []
 cells_end (Named name) None = Err (ending_by.Column NotFound)
 
--- cells_of form rows: the cells of the rows of a list, without those that have none; or the error of the first row that
--- ends it
+-- cells_of form rows: the cells of the rows of a list; a row without a cell is left out. Or the error of the first row that
+-- has one; or else, if a column is awaited by its name and no header comes, that it is not found
 abbrev pub cells_of : Form → List Piece → Result (List Address) AnswerError
 cells_of form rows = cells_then (cells_end form.choice) form 1 (columns_first form.has_header form.choice) rows
 
--- begun_cells form rows: the cells of the first rows of a list, of which more may come
+-- begun_cells form rows: the cells of the first rows of a list, of which more may come; or the error of the first one
+-- that has one
 abbrev pub begun_cells : Form → List Piece → Result (List Address) AnswerError
 begun_cells form rows = cells_then (λ columns. Ok []) form 1 (columns_first form.has_header form.choice) rows
 
@@ -104,7 +105,8 @@ pub record AllRowsRead (form : Form) (cells : Result (List Address) AnswerError)
   pub within : IsWithinReads (2 ^ 40) 65536 list
   pub is : cells_of form (rows_of form.quotes list) ≡ cells
 
--- RowsReadTo: a part of a list is read, and then at most so many bytes more; the rows that end in the part have no error
+-- RowsReadTo: a part of a list is read, and then at most so many bytes more; the rows that end in the part have no
+-- error, and the one that does not has at most 1,114,111 bytes in it
 pub record RowsReadTo (form : Form) (most : ℕ) (old new : Option (List ℕ)) : Type 0 where
   pub part : List ℕ
   pub last : List ℕ
@@ -115,14 +117,31 @@ pub record RowsReadTo (form : Form) (most : ℕ) (old new : Option (List ℕ)) :
   pub ended : List Piece
   pub unended : Piece
   pub rows : pieces_of form.quotes part ≡ ended ++ unended ∷ []
+  pub begun : length unended.0 ≤ 1114111
   pub cells : List Address
   pub good : begun_cells form ended ≡ Ok cells
 
--- RefusesRows: how the reading of the cells of rows is refused: by the list's own error, with at most a page read beyond
--- rows without one; for want of memory; or by a read that fails, or the last one that may be made
+-- RefusesRowsAtEnd form e: all rows of a list are read, and none of them has an error; the list has this one at its end
+pub record RefusesRowsAtEnd (form : Form) (e : AnswerError) (old new : Option (List ℕ)) : Type 0 where
+  pub read : AllRowsRead form (Err e) old new
+  pub cells : List Address
+  pub good : begun_cells form (rows_of form.quotes read.list) ≡ Ok cells
+
+-- RefusesRowsInPage form e: a row of a list has this error, and at most a page is read beyond rows without one, in reads
+-- that may be made; the list ends within the reads that may be made, or each that begins with what is read has the error
+pub record RefusesRowsInPage (form : Form) (e : AnswerError) (old new : Option (List ℕ)) : Type 0 where
+  pub stop : RowsReadTo form 65536 old new
+  pub is : cells_of form (rows_of form.quotes (stop.part ++ stop.last ++ stop.rest)) ≡ Err e
+  pub of_row : begun_cells form (rows_of form.quotes (stop.part ++ stop.last ++ stop.rest)) ≡ Err e
+  pub within : length (stop.part ++ stop.last) ≤ 2 ^ 40 * 65536
+  pub known : IsWithinReads (2 ^ 40) 65536 (stop.part ++ stop.last ++ stop.rest)
+      ⊎ ((after : List ℕ) → cells_of form (rows_of form.quotes (stop.part ++ stop.last ++ after)) ≡ Err e)
+
+-- RefusesRows: how the reading of the cells of rows is refused: by the list's own error, of its end or of a row in the
+-- last page that is read; for want of memory; or by a read that fails, or the last one that may be made
 abbrev pub RefusesRows : Form → Option (List ℕ) → Option (List ℕ) → Bool → Bool → RunError → Type 0
 RefusesRows form old new had has (Error e) =
-    (has ≡ had) × (AllRowsRead form (Err e) old new ⊎ ((stop : RowsReadTo form 65536 old new) × (cells_of form (rows_of form.quotes (stop.part ++ stop.last ++ stop.rest)) ≡ Err e)))
+    (has ≡ had) × (RefusesRowsAtEnd form e old new ⊎ RefusesRowsInPage form e old new)
 RefusesRows form old new had has (Fault Memory) = (has ≡ had) × RowsReadTo form 65536 old new
 RefusesRows form old new had has (Fault Read) = (stop : RowsReadTo form 0 old new) × ((has ≡ true) ⊎ (2 ^ 40 ≤ length (stop.part ++ stop.last ++ stop.rest)))
 RefusesRows form old new had has (Fault Write) = ⊥

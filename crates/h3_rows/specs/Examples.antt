@@ -147,7 +147,7 @@ after_empty_rows = refl
 malformed_header : list_answer (column (codes "cell")) name (10 ∷ codes "c" ++ 34 ∷ codes "ell" ++ 34 ∷ 10 ∷ []) ≡ record { output = 10 ∷ []; ending = Err (AtRow 2 (Bad StrayQuote)) }
 malformed_header = refl
 
--- a byte order mark is in the row, and not in the text of its first field
+-- a byte order mark is before the header, and not in the text of its first field
 order_mark : list_answer (column (codes "cell")) name (239 ∷ 187 ∷ 191 ∷ codes "cell" ++ 10 ∷ codes "8" ++ 10 ∷ []) ≡ written (239 ∷ 187 ∷ 191 ∷ codes "cell,cellToParent" ++ 10 ∷ codes "8,five" ++ 10 ∷ [])
 unfolding parsed_index
 order_mark = refl

@@ -9,7 +9,7 @@ use Rattle.h3_lines.specs.declared.run_error.AnswerError.TheVariants as ending_b
 use Rattle.h3_lines.specs.declared.run_error.RowError.TheVariants as row_error
 use Rattle.h3_lines.specs.declared.run_error.RowFault.{RowFault}
 use Rattle.h3_lines.specs.Pieces.{Piece, cut, inside_after, is_uncut, pieces_of, rows_of}
-use Rattle.h3_rows.specs.Row.{is_empty_row, lacking_last, list_rows, next_number, returns_of, row_body, row_ending}
+use Rattle.h3_rows.specs.Row.{is_empty_row, lacking_last, list_rows, mark_of, next_number, returns_of, row_body, row_ending, unmarked}
 use Rattle.h3_rows.specs.RowsAnswer.{Form, State, answered_with, header_with, row_said, row_step, row_with, rows_then, unanswered}
 use Rattle.h3_rows.specs.declared.state.Columns.{Columns}
 use Rattle.h3_rows.specs.declared.said.Said.{Said}
@@ -37,10 +37,12 @@ with_own form answer line (Ok Missing) = unanswered form line (codes "missing")
 with_own form answer line (Ok (Index index)) = answered_so form line (answer (Some index)).output (answer (Some index)).ending
 
 -- own_lines form answer columns r: what is in the output for a row, which has a number: an empty row as it is, and any
--- other with the answers to its own cell
+-- other with the answers to its own cell, after the byte order mark before the first row of a list
 abbrev pub own_lines : Form → (Option ℕ → Answer) → Columns → ℕ × Piece → List ℕ
 own_lines form answer columns r =
-    if is_empty_row r.0 (row_body r.1.0) then r.1.0 ++ 10 ∷ [] else with_own form answer r.1.0 (row_said form r.0 columns (row_body r.1.0))
+    if is_empty_row r.0 (row_body r.1.0) then r.1.0 ++ 10 ∷ []
+    else mark_of r.0 (row_body r.1.0)
+    ++ with_own form answer (unmarked r.0 r.1.0) (row_said form r.0 columns (row_body r.1.0))
 
 -- RowsStand: if no row ends the answer, what is written for rows after a header, or without one, is `own_lines` of each
 -- of them by its own cell alone, in order, and nothing else
@@ -79,6 +81,10 @@ RowsGiveBack = (quotes : Bool) (bytes : List ℕ) →
 -- RowsAreWhole: a row and its ending are what was cut off, and its line feed
 abbrev pub RowsAreWhole : Type 0
 RowsAreWhole = (line : List ℕ) → row_body line ++ row_ending line ≡ line ++ 10 ∷ []
+
+-- MarksAreKept: the byte order mark before a row, and the row without it, are the row as it came
+abbrev pub MarksAreKept : Type 0
+MarksAreKept = (number : ℕ) (line : List ℕ) → mark_of number (row_body line) ++ unmarked number line ≡ line
 
 -- FieldsAreKept: the fields of a row with an answer are those of the row, and then the answer; so taking the column away
 -- gives the row back

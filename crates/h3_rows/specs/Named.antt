@@ -1,5 +1,5 @@
 -- The rows of a table in which one field has a cell, and another a name.
-use Rattle.std.specs.Prelude.{◌≡◌, ℕ, ◌^◌, ◌≤◌, ◌⊎◌, Bool, true, List, [], ◌∷◌, ◌++◌, length, Option, None, Some, option_map, Result, Ok, Err, false, if◌then◌else◌}
+use Rattle.std.specs.Prelude.{◌≡◌, ℕ, ◌*◌, ◌^◌, ◌≤◌, ◌⊎◌, Bool, true, List, [], ◌∷◌, ◌++◌, length, Option, None, Some, option_map, Result, Ok, Err, false, if◌then◌else◌}
 use Rattle.std.specs.Io.KnownBytes.{Consumes}
 use Rattle.h3_index.specs.Cell.{Address}
 use Rattle.h3_index.specs.Text.{trimmed}
@@ -26,7 +26,7 @@ use Rattle.h3_rows.specs.declared.state.Columns.{Columns}
 use Rattle.h3_rows.specs.declared.table.TableColumns.{TableColumns}
 use Rattle.h3_rows.specs.declared.table.TableOptions.{TableOptions}
 
--- Entry: what is read of a row: a cell and its name; or of a header, which has no cell, the name of the column of names
+-- Entry: what is read of a row: a cell and its name; of a header, no cell and the name of the column of names
 abbrev pub Entry : Type 0
 Entry = Option Address × List ℕ
 
@@ -108,7 +108,8 @@ pub record Found : Type 0 where
   pub cells : Result (List Entry) AnswerError
   pub columns : Option TableColumns
 
--- header_found table row columns: a header has the columns, and the name of the column of names; or its error ends the list
+-- header_found table row columns: the columns that a header says, and the name of the column of names; or its error, which
+-- ends the list
 abbrev pub header_found : Table → List ℕ → Result TableColumns ColumnError → Found
 header_found table row (Ok columns) = record { cells = Ok (title_list (name_at table.form columns.name row)); columns = Some columns }
 header_found table row (Err e) = record { cells = Err (ending_by.Column e); columns = None }
@@ -150,11 +151,12 @@ named_end table (Some columns) = Ok []
 named_end table None = unless_named table.form.choice (unless_named table.name (Ok []))
 
 -- named_cells table rows: the entries of the rows of a list, without the rows that have none; or the error of the first row
--- that ends it
+-- that has one; or else, if a column is awaited by its name and no header comes, that it is not found
 abbrev pub named_cells : Table → List Piece → Result (List Entry) AnswerError
 named_cells table rows = named_then (named_end table) table 1 (table_first table) rows
 
--- begun_named table rows: the entries of the first rows of a list, of which more may come
+-- begun_named table rows: the entries of the first rows of a list, of which more may come; or the error of the first
+-- one that has one
 abbrev pub begun_named : Table → List Piece → Result (List Entry) AnswerError
 begun_named table rows = named_then (λ columns. Ok []) table 1 (table_first table) rows
 
@@ -168,7 +170,8 @@ pub record AllNamedRead (table : Table) (entries : Result (List Entry) AnswerErr
   pub within : IsWithinReads (2 ^ 40) 65536 list
   pub is : named_cells table (rows_of table.form.quotes list) ≡ entries
 
--- NamedReadTo: a part of a list is read, and then at most so many bytes more; the rows that end in the part have no error
+-- NamedReadTo: a part of a list is read, and then at most so many bytes more; the rows that end in the part have no
+-- error, and the one that does not has at most 1,114,111 bytes in it
 pub record NamedReadTo (table : Table) (most : ℕ) (old new : Option (List ℕ)) : Type 0 where
   pub part : List ℕ
   pub last : List ℕ
@@ -179,14 +182,32 @@ pub record NamedReadTo (table : Table) (most : ℕ) (old new : Option (List ℕ)
   pub ended : List Piece
   pub unended : Piece
   pub rows : pieces_of table.form.quotes part ≡ ended ++ unended ∷ []
+  pub begun : length unended.0 ≤ 1114111
   pub entries : List Entry
   pub good : begun_named table ended ≡ Ok entries
 
--- RefusesNamed: how the reading of a table is refused: by its own error, with at most a page read beyond rows without one;
--- for want of memory; or by a read that fails, or the last one that may be made
+-- RefusesNamedAtEnd table e: all rows of a list are read, and none of them has an error; the list has this one at its
+-- end
+pub record RefusesNamedAtEnd (table : Table) (e : AnswerError) (old new : Option (List ℕ)) : Type 0 where
+  pub read : AllNamedRead table (Err e) old new
+  pub entries : List Entry
+  pub good : begun_named table (rows_of table.form.quotes read.list) ≡ Ok entries
+
+-- RefusesNamedInPage table e: a row of a list has this error, and at most a page is read beyond rows without one, in reads
+-- that may be made; the list ends within the reads that may be made, or each that begins with what is read has the error
+pub record RefusesNamedInPage (table : Table) (e : AnswerError) (old new : Option (List ℕ)) : Type 0 where
+  pub stop : NamedReadTo table 65536 old new
+  pub is : named_cells table (rows_of table.form.quotes (stop.part ++ stop.last ++ stop.rest)) ≡ Err e
+  pub of_row : begun_named table (rows_of table.form.quotes (stop.part ++ stop.last ++ stop.rest)) ≡ Err e
+  pub within : length (stop.part ++ stop.last) ≤ 2 ^ 40 * 65536
+  pub known : IsWithinReads (2 ^ 40) 65536 (stop.part ++ stop.last ++ stop.rest)
+      ⊎ ((after : List ℕ) → named_cells table (rows_of table.form.quotes (stop.part ++ stop.last ++ after)) ≡ Err e)
+
+-- RefusesNamed: how the reading of a table is refused: by its own error, of its end or of a row in the last page that
+-- is read; for want of memory; or by a read that fails, or the last one that may be made
 abbrev pub RefusesNamed : Table → Option (List ℕ) → Option (List ℕ) → Bool → Bool → RunError → Type 0
 RefusesNamed table old new had has (Error e) =
-    (has ≡ had) × (AllNamedRead table (Err e) old new ⊎ ((stop : NamedReadTo table 65536 old new) × (named_cells table (rows_of table.form.quotes (stop.part ++ stop.last ++ stop.rest)) ≡ Err e)))
+    (has ≡ had) × (RefusesNamedAtEnd table e old new ⊎ RefusesNamedInPage table e old new)
 RefusesNamed table old new had has (Fault Memory) = (has ≡ had) × NamedReadTo table 65536 old new
 RefusesNamed table old new had has (Fault Read) = (stop : NamedReadTo table 0 old new) × ((has ≡ true) ⊎ (2 ^ 40 ≤ length (stop.part ++ stop.last ++ stop.rest)))
 RefusesNamed table old new had has (Fault Write) = ⊥

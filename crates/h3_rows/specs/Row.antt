@@ -46,16 +46,28 @@ next_number number line = number + 1 + count_by (λ b. b == 10) line
 
 -- ---- fields
 
--- without_order_mark bytes: the bytes without a byte order mark, EF BB BF, at their beginning
+-- has_order_mark bytes: a byte order mark, EF BB BF, is at their beginning
+abbrev pub has_order_mark : List ℕ → Bool
+has_order_mark bs = nat_le 3 (length bs) && (get_or bs 0 0 == 239) && (get_or bs 1 0 == 187) && (get_or bs 2 0 == 191)
+
+-- without_order_mark bytes: the bytes without a byte order mark at their beginning
 abbrev pub without_order_mark : List ℕ → List ℕ
-without_order_mark bs = if nat_le 3 (length bs) && (get_or bs 0 0 == 239) && (get_or bs 1 0 == 187) && (get_or bs 2 0 == 191) then drop 3 bs else bs
+without_order_mark bs = if has_order_mark bs then drop 3 bs else bs
 
 -- read_of number row: what is read of the row with this number: the first row of a list without its byte order mark
 abbrev pub read_of : ℕ → List ℕ → List ℕ
 read_of number row = if number == 1 then without_order_mark row else row
 
--- is_empty_row number row: the row with this number, without its ending, is empty: a first row also if it is a byte order mark
--- alone
+-- mark_of number row: the byte order mark of a list, if this is its first row and begins with one: it belongs to no row
+abbrev pub mark_of : ℕ → List ℕ → List ℕ
+mark_of number row = if (number == 1) && has_order_mark row then take 3 row else []
+
+-- unmarked number line: the row with this number and its carriage returns, without that mark
+abbrev pub unmarked : ℕ → List ℕ → List ℕ
+unmarked number line = read_of number (row_body line) ++ returns_of line
+
+-- is_empty_row number row: the row with this number, without its ending, is empty; the byte order mark before a first row
+-- does not count
 abbrev pub is_empty_row : ℕ → List ℕ → Bool
 is_empty_row number row = length (read_of number row) == 0
 

@@ -17,7 +17,7 @@ use Rattle.h3_lines.specs.declared.run_error.RowError.TheVariants as row_error
 use Rattle.h3_lines.specs.declared.run_error.RowFault.{RowFault}
 use Rattle.h3_lines.specs.declared.run_error.RowFault.TheVariants.{CarriageReturn, FieldCount, NoSuchField, NotAnIndex, OpenQuote, StrayQuote, TooLong}
 use Rattle.h3_lines.specs.Pieces.{Piece, cut, is_uncut}
-use Rattle.h3_rows.specs.Row.{field_text, is_empty_row, list_rows, next_number, piece_at, quotes_are_sound, read_of, row_body, row_ending}
+use Rattle.h3_rows.specs.Row.{field_text, is_empty_row, list_rows, mark_of, next_number, piece_at, quotes_are_sound, read_of, row_body, row_ending, unmarked}
 use Rattle.h3_rows.specs.declared.state.Columns.{Columns}
 use Rattle.h3_rows.specs.declared.state.Kept.{Kept}
 use Rattle.h3_rows.specs.declared.said.Said.{Said}
@@ -111,11 +111,11 @@ abbrev pub row_said : Form → ℕ → Columns → List ℕ → Result Said RowF
 row_said form number columns row = fields_said form.quotes columns (cut form.separator form.quotes false (read_of number row))
 
 -- malformed form number p: why a row is no row of the form, if it is none: it has more than 1,048,575 bytes, or more than
--- 1,114,111 with the carriage returns at its end; if quotes count, it has a carriage return outside quotes; a quote is
--- open at its end; if quotes count, one is stray
+-- 1,114,111 with a byte order mark and the carriage returns at its end; if quotes count, it has a carriage return outside
+-- quotes; a quote is open at its end; if quotes count, one is stray
 abbrev pub malformed : Form → ℕ → Piece → Option RowFault
 malformed form number p =
-    if nat_lt 1048575 (length (row_body p.0)) || nat_lt 1114111 (length p.0) then Some TooLong else
+    if nat_lt 1048575 (length (read_of number (row_body p.0))) || nat_lt 1114111 (length p.0) then Some TooLong else
     if form.quotes && not (is_uncut 13 true false (row_body p.0)) then Some CarriageReturn else
     if p.1 then Some OpenQuote else
     if form.quotes && not (quotes_are_sound form.separator (read_of number (row_body p.0))) then Some StrayQuote else None
@@ -274,10 +274,26 @@ header_step form s line (Ok columns) = record {
   after = record { number = next_number s.number line; columns = Some columns; pending = []; kept = s.kept };
 }
 
--- filled_step form answer s line columns: the answer to a row that is not empty: it is the header while one is awaited
+-- begun_with mark ending text: a mark before what is written of a row; an error that ends the answer leaves it out, as then
+-- no row is written
+abbrev pub begun_with : List ℕ → Result (Unit {0}) AnswerError → List ℕ → List ℕ
+begun_with mark (Ok u) text = mark ++ text
+begun_with mark (Err e) text = text
+
+-- marked mark step: the answer to a row, written after a mark unless it ends the answer
+abbrev pub marked : List ℕ → Step → Step
+marked mark step = record {
+  answer = record { output = begun_with mark step.answer.ending step.answer.output; ending = step.answer.ending };
+  after = step.after;
+}
+
+-- filled_step form answer s line columns: the answer to a row that is not empty: it is the header while one is awaited. The
+-- byte order mark before the first row of a list is written once, before the row
 abbrev pub filled_step : Form → (Option ℕ → Answer) → State → List ℕ → Option Columns → Step
 filled_step form answer s line None = let row = read_of s.number (row_body line) in header_step form s line (free_columns form row (columns_in form row))
-filled_step form answer s line (Some columns) = answer_said form answer s line (row_said form s.number columns (row_body line))
+filled_step form answer s line (Some columns) =
+    marked (mark_of s.number (row_body line))
+    (answer_said form answer s (unmarked s.number line) (row_said form s.number columns (row_body line)))
 
 -- empty_step s line columns: an empty row is written as it is; before a header it is held back, but for more than 32,768
 -- bytes of such rows, which are written at once

@@ -6,25 +6,27 @@ ghost use Rattle.h3_lines.specs.Write.{sink_use};
 ghost use Rattle.h3_lines.specs.declared.line.TheConstants.{BLOCK};
 ghost use Rattle.h3_lines.specs.declared.run_error.AnswerError.TheVariants.{AtRow};
 ghost use Rattle.h3_lines.specs.Answering.{EndsBy};
-ghost use Rattle.h3_rows.specs.Answering.{BreaksCell, PutsCell, PutsPlain, StepEnds, StepsTo, form_of_job, held_of, state_of};
+ghost use Rattle.h3_rows.specs.Answering.{BreaksCell, PutsCell, PutsPlain, StepEnds, StepsTo, form_of_job, held_of, mark_in, state_of};
 ghost use Rattle.h3_rows.specs.Line.{line_of};
 ghost use Rattle.h3_rows.specs.Plain.{IsPlainField};
-ghost use Rattle.h3_rows.specs.Row.{row_body};
 ghost use Rattle.h3_rows.specs.RowForm.{columns_form};
-ghost use Rattle.h3_rows.specs.RowsAnswer.{State, answer_said, error_field, faulty, row_said, row_step};
+ghost use Rattle.h3_rows.specs.RowsAnswer.{State, answer_said, error_field, faulty, filled_step, marked, row_step};
 
-use crate::fields::read_of;
+use crate::fields::{mark_of, read_of};
 use crate::function::{RowFunction, Workspace};
 use crate::job::RowJob;
 use crate::lanes::is_one_line;
+use crate::line::without_mark;
 use crate::plain::{find_plain, text_between};
-use crate::put::{hold_ending, hold_row, make_room, put_empty, put_header, put_unanswered};
+use crate::put::{
+    hold_ending, hold_mark, hold_row, make_room, put_empty, put_header, put_unanswered,
+};
 use crate::reading::{malformed, read_row};
 use crate::row::Row;
 use crate::said::Said;
 use crate::state::{Columns, RowState};
 use h3_index::read_plain;
-use h3_lines::{ANSWER, AnswerError, BLOCK, RowError, RunError, write_held};
+use h3_lines::{ANSWER, AnswerError, BLOCK, RowError, RowFault, RunError, write_held};
 use h3_requests::RowOptions;
 use h3_streams::Sink;
 
@@ -38,35 +40,31 @@ fn after_size(options: &RowOptions) -> usize
     if options.shows_errors { 1 } else { 0 }
 }
 
-/// Puts a row with the answers to its cell, or returns the row's error.
+/// Puts a row with the answers to its cell, by what it says of this, or returns the row's error.
 fn answer_cell<'f, W: Sink, F: RowFunction>(
     out: &mut W,
     block: &mut [u8; BLOCK],
     end: usize,
     job: &RowJob<'f, F>,
     work: &mut Workspace,
-    number: u64,
-    columns: Columns,
     row: Row<'_>,
+    said: Result<Said, RowFault>,
 ) -> Result<Result<usize, RowError>, RunError>
     requires { end ≤ BLOCK }
     ensures within { IfOk result (λ o. IfOk o (λ last. last ≤ BLOCK)) }
     ensures ok { IfOk result (λ o. IfOk o (λ last. PutsCell W.taken W.has_failed
-        (λ s. answer_said (form_of_job job.now) (F.answer_of job.now.function.now) s (line_of row.entry)
-        (row_said (form_of_job job.now) number columns (row_body (line_of row.entry))))
+        (λ s. answer_said (form_of_job job.now) (F.answer_of job.now.function.now) s (line_of row.entry) said)
         (line_of row.entry) (take end block.old) (take last block.new) out.old out.new)) }
     ensures faulty { IfOk result (λ o. IfErr o (λ e. (s : State) →
-        answer_said (form_of_job job.now) (F.answer_of job.now.function.now) s (line_of row.entry)
-        (row_said (form_of_job job.now) number columns (row_body (line_of row.entry)))
+        answer_said (form_of_job job.now) (F.answer_of job.now.function.now) s (line_of row.entry) said
         ≡ faulty (form_of_job job.now) s (line_of row.entry) e)) }
     ensures kept { IfOk result (λ o. IfErr o (λ e. take end block.new ≡ take end block.old)) }
     ensures left { IfOk result (λ o. IfErr o (λ e. out.new ≡ out.old)) }
     ensures err { IfErr result (λ e. BreaksCell
-        (λ s. answer_said (form_of_job job.now) (F.answer_of job.now.function.now) s (line_of row.entry)
-        (row_said (form_of_job job.now) number columns (row_body (line_of row.entry))))
+        (λ s. answer_said (form_of_job job.now) (F.answer_of job.now.function.now) s (line_of row.entry) said)
         (line_of row.entry) (take end block.old) (sink_use W.taken W.has_failed out.old out.new) e) }
 {
-    match read_row(job.options, job.name, number, columns, row.body) {
+    match said {
         Ok(Said::Index(index)) => {
             let separator = job.options.separator;
             let between = [separator];
@@ -112,8 +110,51 @@ fn error_text(error: RowError) -> &'static [u8]
     error.name().as_bytes()
 }
 
-/// Puts a row with the answers to its cell.
+/// Puts a row with the answers to its cell, by what it says of this, after the mark that a block has from the
+/// byte `end` on. If the row ends the answer the mark is not written.
 fn put_cell<'f, W: Sink, F: RowFunction>(
+    out: &mut W,
+    block: &mut [u8; BLOCK],
+    end: usize,
+    mark: usize,
+    job: &RowJob<'f, F>,
+    work: &mut Workspace,
+    state: RowState,
+    row: Row<'_>,
+    said: Result<Said, RowFault>,
+) -> Result<(usize, RowState), RunError>
+    requires within { end + mark ≤ BLOCK }
+    requires known { (k : Columns) × (state.columns ≡ Some k) }
+    requires few { state.number + length row.body.now < 2 ^ 63 }
+    ensures within { IfOk result (λ r. r.0 ≤ BLOCK) }
+    ensures few { IfOk result (λ r. r.1.number ≤ state.number + length row.entry.body.now + 1) }
+    ensures ok { IfOk result (λ r. StepsTo W.taken W.has_failed
+        (marked (mark_in end mark block.old) (answer_said (form_of_job job.now)
+        (F.answer_of job.now.function.now) (state_of state (take end block.old)) (line_of row.entry) said))
+        (state_of r.1 (take r.0 block.new)) (held_of state.columns (take end block.old))
+        (held_of r.1.columns (take r.0 block.new)) out.old out.new) }
+    ensures err { IfErr result (λ e. StepEnds
+        (marked (mark_in end mark block.old) (answer_said (form_of_job job.now)
+        (F.answer_of job.now.function.now) (state_of state (take end block.old)) (line_of row.entry) said))
+        (held_of state.columns (take end block.old)) e
+        (sink_use W.taken W.has_failed out.old out.new)) }
+{
+    let start = end + mark;
+    match answer_cell(out, block, start, job, work, row, said)? {
+        Ok(last) => {
+            let room = make_room(out, block, last)?;
+            Ok((room, state.passed(row)))
+        }
+        Err(error) if job.options.keeps_going => {
+            let last = put_unanswered(out, block, start, job, row, error_text(error))?;
+            Ok((last, state.with_error(row, error)))
+        }
+        Err(error) => Err(refuse_row(out, &block[..end], state.number, error)),
+    }
+}
+
+/// Puts a row with the answers to its cell, after the byte order mark before it, if it has one.
+fn put_filled<'f, W: Sink, F: RowFunction>(
     out: &mut W,
     block: &mut [u8; BLOCK],
     end: usize,
@@ -129,29 +170,21 @@ fn put_cell<'f, W: Sink, F: RowFunction>(
     ensures within { IfOk result (λ r. r.0 ≤ BLOCK) }
     ensures few { IfOk result (λ r. r.1.number ≤ state.number + length row.entry.body.now + 1) }
     ensures ok { IfOk result (λ r. StepsTo W.taken W.has_failed
-        (answer_said (form_of_job job.now) (F.answer_of job.now.function.now)
-        (state_of state (take end block.old)) (line_of row.entry)
-        (row_said (form_of_job job.now) state.number columns (row_body (line_of row.entry))))
+        (filled_step (form_of_job job.now) (F.answer_of job.now.function.now)
+        (state_of state (take end block.old)) (line_of row.entry) (Some columns))
         (state_of r.1 (take r.0 block.new)) (held_of state.columns (take end block.old))
         (held_of r.1.columns (take r.0 block.new)) out.old out.new) }
     ensures err { IfErr result (λ e. StepEnds
-        (answer_said (form_of_job job.now) (F.answer_of job.now.function.now)
-        (state_of state (take end block.old)) (line_of row.entry)
-        (row_said (form_of_job job.now) state.number columns (row_body (line_of row.entry))))
+        (filled_step (form_of_job job.now) (F.answer_of job.now.function.now)
+        (state_of state (take end block.old)) (line_of row.entry) (Some columns))
         (held_of state.columns (take end block.old)) e
         (sink_use W.taken W.has_failed out.old out.new)) }
 {
-    match answer_cell(out, block, end, job, work, state.number, columns, row)? {
-        Ok(last) => {
-            let room = make_room(out, block, last)?;
-            Ok((room, state.passed(row)))
-        }
-        Err(error) if job.options.keeps_going => {
-            let last = put_unanswered(out, block, end, job, row, error_text(error))?;
-            Ok((last, state.with_error(row, error)))
-        }
-        Err(error) => Err(refuse_row(out, &block[..end], state.number, error)),
-    }
+    let said = read_row(job.options, job.name, state.number, columns, row.body);
+    let mark = mark_of(state.number, row.body);
+    let start = hold_mark(out, block, end, mark)?;
+    let row = without_mark(state.number, row);
+    put_cell(out, block, start, mark.len(), job, work, state, row, said)
 }
 
 /// Puts the answer to a row.
@@ -188,7 +221,7 @@ pub(crate) fn put_answer<'f, W: Sink, F: RowFunction>(
     }
     match state.columns {
         None => put_header(out, block, end, job, state, row),
-        Some(columns) => put_cell(out, block, end, job, work, state, columns, row),
+        Some(columns) => put_filled(out, block, end, job, work, state, columns, row),
     }
 }
 

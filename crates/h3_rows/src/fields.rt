@@ -4,7 +4,7 @@ ghost use Rattle.std.specs.Prelude.{true, not, ◌≡◌, ◌==◌, ◌+◌, ◌
 ghost use Rattle.std.specs.List.{list_all};
 ghost use Rattle.h3_index.specs.Text.{is_blank, trimmed, without_leading_blanks, without_trailing_blanks};
 ghost use Rattle.h3_lines.specs.Pieces.{cut, is_uncut};
-ghost use Rattle.h3_rows.specs.Row.{field_text, is_padded, is_read_alike, opens_well, piece_at, quotes_are_sound, read_of, unquoted, without_order_mark};
+ghost use Rattle.h3_rows.specs.Row.{field_text, has_order_mark, is_padded, is_read_alike, mark_of, opens_well, piece_at, quotes_are_sound, read_of, unquoted};
 
 use h3_lines::split;
 use memchr::{memchr, memchr2};
@@ -229,22 +229,32 @@ pub(crate) fn field_text(quotes: bool, field: &[u8]) -> &[u8]
     text
 }
 
-/// The bytes without a byte order mark at their beginning.
-fn without_order_mark(bytes: &[u8]) -> &[u8]
-    ensures { result.now ≡ without_order_mark bytes.now }
+/// Whether a byte order mark is at the beginning of bytes.
+fn has_order_mark(bytes: &[u8]) -> bool
+    ensures { result ≡ has_order_mark bytes.now }
 {
-    if bytes.len() >= 3 && bytes[0] == 0xEF && bytes[1] == 0xBB && bytes[2] == 0xBF {
-        return &bytes[3..];
-    }
-    bytes
+    bytes.len() >= 3 && bytes[0] == 0xEF && bytes[1] == 0xBB && bytes[2] == 0xBF
+}
+
+/// The byte order mark of a list, if this is its first row and begins with one.
+pub(crate) fn mark_of(number: u64, row: &[u8]) -> &[u8]
+    ensures is { result.now ≡ mark_of number row.now }
+    ensures short { length result.now ≤ 3 }
+{
+    let size = if number == 1 && has_order_mark(row) {
+        3
+    } else {
+        0
+    };
+    &row[..size]
 }
 
 /// What is read of the row with this number: the first row of a list without its byte order mark.
 pub(crate) fn read_of(number: u64, row: &[u8]) -> &[u8]
     ensures { result.now ≡ read_of number row.now }
 {
-    if number == 1 {
-        return without_order_mark(row);
+    if number == 1 && has_order_mark(row) {
+        return &row[3..];
     }
     row
 }

@@ -2,12 +2,12 @@
 //! always.
 
 ghost use Rattle.h3_rows.specs.Areas.{AreasHaveCells, CellsHaveAreas, EntriesAreFields, NamesAreFields, NamesStandOnce, NumbersAreOfNames};
-ghost use Rattle.h3_rows.specs.Laws.{FieldsAreKept, HeaderStands, OutputReadsBack, PairsAreKept, RowsAreWhole, RowsGiveBack, RowsReadBack, RowsStand, RowsStandUntil};
+ghost use Rattle.h3_rows.specs.Laws.{FieldsAreKept, HeaderStands, MarksAreKept, OutputReadsBack, PairsAreKept, RowsAreWhole, RowsGiveBack, RowsReadBack, RowsStand, RowsStandUntil};
 
 /// Each row is in the output whole, in order, with the answers to its own cell alone, up to the row that
 /// ends the answer; a header is before them whole, with the names of the new columns.
 ///
-/// A row and its ending are what was cut off. The fields of a row with an answer are those of the row, and
+/// A row and its ending are what was cut off, after the byte order mark before it. The fields of a row with an answer are those of the row, and
 /// then the answer, or its two parts. So taking the new columns away gives the rows back, and these the
 /// list, but for an ending that its last row lacked. Rows with their answers, read again, are as many rows.
 pub fn answers_stand_beside()
@@ -16,6 +16,7 @@ pub fn answers_stand_beside()
     ensures header { HeaderStands }
     ensures give { RowsGiveBack }
     ensures whole { RowsAreWhole }
+    ensures marks { MarksAreKept }
     ensures kept { FieldsAreKept }
     ensures pairs { PairsAreKept }
     ensures back { RowsReadBack }

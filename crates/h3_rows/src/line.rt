@@ -2,9 +2,10 @@
 
 ghost use Rattle.std.specs.Prelude.{◌≡◌, ◌≤◌, ◌<◌, ◌+◌, ◌++◌, length, replicate, take, vec_capacity, IfNone, IfSome};
 ghost use Rattle.h3_rows.specs.Line.{line_of};
-ghost use Rattle.h3_rows.specs.Row.{lacking, row_body};
+ghost use Rattle.h3_rows.specs.Row.{lacking, row_body, unmarked};
 ghost use Rattle.h3_rows.specs.declared.reading.TheConstants.{LONGEST};
 
+use crate::fields::read_of;
 use crate::reading::LONGEST;
 use crate::row::Row;
 use h3_lines::lengthen;
@@ -31,6 +32,18 @@ pub(crate) fn row_of(line: &[u8]) -> Row<'_>
     Row {
         body,
         returns: line.len() - body.len(),
+    }
+}
+
+/// The row with this number without the byte order mark before it.
+pub(crate) fn without_mark(number: u64, row: Row<'_>) -> Row<'_>
+    ensures line { line_of result ≡ unmarked number (line_of row.entry) }
+    ensures short { length result.body.now ≤ length row.entry.body.now }
+    ensures returns { result.returns ≡ row.entry.returns }
+{
+    Row {
+        body: read_of(number, row.body),
+        returns: row.returns,
     }
 }
 

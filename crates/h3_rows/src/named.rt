@@ -29,7 +29,7 @@ use h3_requests::CellField;
 use h3_streams::{CountedReader, Source};
 use std::alloc::Global;
 
-/// What is read of a row: its cell, none of a header, and its name.
+/// What is read of a row: its cell and its name. A header has names and no cell of the list.
 type RowEntry<'r> = (Option<Cell>, &'r [u8]);
 
 /// The columns, by a header.
@@ -145,8 +145,8 @@ pub trait NamedJob {
     /// From the one to the other these entries were taken, in this order.
     ghost taken: { Self → List Entry → Self → Type 0 };
 
-    /// Takes a cell and its name, without the blanks at both ends; or, with no cell, the name in the
-    /// header of the column of names. `Fault::Memory` if there is no memory for them.
+    /// Takes a cell and its name, without the blanks at both ends; or, if `cell` is `None`, the name in
+    /// the header of the column of names. `Fault::Memory` if there is no memory for them.
     fn take(&mut self, cell: Option<Cell>, name: &[u8]) -> Result<(), RunError>
         requires few { count self.old < 2 ^ 63 }
         ensures ok { OnOk result (taken self.old ((cell, name.now) ∷ []) self.new) }

@@ -5,7 +5,7 @@ ghost use Rattle.std.specs.List.{flat_map};
 ghost use Rattle.h3_lines.specs.Write.{sink_use};
 ghost use Rattle.h3_lines.specs.declared.line.TheConstants.{BLOCK};
 ghost use Rattle.h3_lines.specs.Answering.{Breaks, Moves};
-ghost use Rattle.h3_rows.specs.Answering.{StepEnds, StepsTo, form_of_job, held_of, listed, state_of};
+ghost use Rattle.h3_rows.specs.Answering.{StepEnds, StepsTo, form_of_job, held_of, listed, mark_in, state_of};
 ghost use Rattle.h3_rows.specs.Line.{line_of};
 ghost use Rattle.h3_rows.specs.Row.{read_of, row_body};
 ghost use Rattle.h3_rows.specs.RowForm.{columns_form};
@@ -314,6 +314,31 @@ pub(crate) fn put_header<'f, W: Sink, F>(
     Ok((last, state.headed(row, columns)))
 }
 
+/// Puts a mark into a block, after what is held back up to `end`, or at its front, once that is written.
+/// Returns where the mark begins.
+pub(crate) fn hold_mark<W: Sink>(
+    out: &mut W,
+    block: &mut [u8; BLOCK],
+    end: usize,
+    mark: &[u8],
+) -> Result<usize, RunError>
+    requires within { end ≤ BLOCK }
+    requires short { length mark.now ≤ 3 }
+    ensures within { IfOk result (λ start. start + length mark.now ≤ BLOCK) }
+    ensures ok { IfOk result (λ start. Moves W.taken W.has_failed (take end block.old)
+        (take start block.new) out.old out.new) }
+    ensures mark { IfOk result (λ start. mark_in start (length mark.now) block.new ≡ mark.now) }
+    ensures err { IfErr result (λ e. Breaks (take end block.old)
+        (sink_use W.taken W.has_failed out.old out.new) e) }
+{
+    if mark.is_empty() {
+        return Ok(end);
+    }
+    let start = make_room(out, block, end)?;
+    block[start..start + mark.len()].copy_from_slice(mark);
+    Ok(start)
+}
+
 /// Writes what is held back if a plain row may have no room after it, and returns where the bytes in
 /// the block end then.
 // Else each plain row near the block's end would go byte by byte: one in fifty.
@@ -323,7 +348,7 @@ pub(crate) fn make_room<W: Sink>(
     end: usize,
 ) -> Result<usize, RunError>
     requires { end ≤ BLOCK }
-    ensures within { IfOk result (λ last. last ≤ BLOCK) }
+    ensures within { IfOk result (λ last. last + 3 ≤ BLOCK) }
     ensures ok { IfOk result (λ last. Moves W.taken W.has_failed (take end block.now)
         (take last block.now) out.old out.new) }
     ensures err { IfErr result (λ e. Breaks (take end block.now)

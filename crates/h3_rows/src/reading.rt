@@ -19,10 +19,11 @@ use h3_lines::RowFault;
 use h3_requests::RowOptions;
 use memchr::memchr;
 
-/// The bytes that a row may have before its line feed, with the carriage returns at its end.
+/// The bytes that a row may have before its line feed, with a byte order mark and the carriage returns
+/// at its end.
 pub(crate) const LONGEST: usize = 1_114_111;
 
-/// The bytes that a row may have without its ending.
+/// The bytes that a row may have without its ending and a byte order mark.
 const LONGEST_ROW: usize = 1_048_575;
 
 /// What the text of a field says.
@@ -36,12 +37,12 @@ fn text_said(text: &[u8]) -> Result<Said, RowFault>
     }
 }
 
-/// Whether a row is too long.
-fn is_too_long(row: Row<'_>) -> bool
-    ensures { result ≡ (nat_lt 1048575 (length (row_body (line_of row.entry)))
+/// Whether the row with this number is too long.
+fn is_too_long(number: u64, row: Row<'_>) -> bool
+    ensures { result ≡ (nat_lt 1048575 (length (read_of number (row_body (line_of row.entry))))
         || nat_lt 1114111 (length (line_of row.entry))) }
 {
-    row.body.len() > LONGEST_ROW || row.body.len() + row.returns > LONGEST
+    read_of(number, row.body).len() > LONGEST_ROW || row.body.len() + row.returns > LONGEST
 }
 
 /// Whether quotes count, and a carriage return in a row is outside of them.
@@ -71,7 +72,7 @@ pub(crate) fn malformed(
     ensures { result
         ≡ malformed (form_of options.now name.now) number (line_of row.entry, inside) }
 {
-    if is_too_long(row) {
+    if is_too_long(number, row) {
         return Some(RowFault::TooLong);
     }
     if has_stray_return(options, row) {

@@ -5,7 +5,7 @@ use Rattle.h3_lines.specs.declared.run_error.RowError.TheVariants.{Bad}
 use Rattle.h3_rows.specs.Answering.{StepEnds, StepsTo, form_of_job, held_of, state_of}
 use Rattle.h3_rows.specs.Line.{line_of}
 use Rattle.h3_rows.specs.Row.{is_empty_row, read_of, row_body}
-use Rattle.h3_rows.specs.RowsAnswer.{answer_said, columns_in, empty_step, ends, free_columns, header_step, malformed, row_said, row_step}
+use Rattle.h3_rows.specs.RowsAnswer.{columns_in, empty_step, ends, filled_step, free_columns, header_step, malformed, row_step}
 use Rattle.h3_rows.proofs.Returns.{body_of_row}
 use Rattle.h3_rows.proofs.Steps.{refused_ends}
 use Rattle.h3_rows.proofs.answer.put_answer.Goals as goal
@@ -62,9 +62,9 @@ returns-in-Some-columns-clause-ok g c =
     let sound : malformed form s.number (line_of r, c.args.inside) ≡ None = sym c.malformed.ensures ∙ c.in_default.is in
     let read : read_of s.number (row_body (line_of r)) ≡ c.read_of.result.now = ap (read_of s.number) body ∙ sym c.read_of.ensures in
     let filled : is_empty_row s.number (row_body (line_of r)) ≡ false = rw read (sym c.is_empty.ensures ∙ c.if-is_empty.false) in
-    let cell = answer_said form answer (state_of s held) (line_of r) (row_said form s.number c.in-Some-columns.columns (row_body (line_of r))) in
+    let cell = filled_step form answer (state_of s held) (line_of r) (Some c.in-Some-columns.columns) in
     let is : row_step form answer (state_of s held) (line_of r, c.args.inside) ≡ cell = rw (sound, filled, c.in-Some-columns.is) refl in
-    IfOk-weaker c.put_cell.result _ _ (λ q h. subst (λ x. StepsTo g.W.Sink.taken g.W.Sink.has_failed x (state_of q.1 (take q.0 c.put_cell.new.block)) (held_of s.columns held) (held_of q.1.columns (take q.0 c.put_cell.new.block)) c.args.out.now c.put_cell.new.out) (sym is) h) c.put_cell.ensures.ok
+    IfOk-weaker c.put_filled.result _ _ (λ q h. subst (λ x. StepsTo g.W.Sink.taken g.W.Sink.has_failed x (state_of q.1 (take q.0 c.put_filled.new.block)) (held_of s.columns held) (held_of q.1.columns (take q.0 c.put_filled.new.block)) c.args.out.now c.put_filled.new.out) (sym is) h) c.put_filled.ensures.ok
 
 pub returns-then-is_empty-clause-err : goal.returns-then-is_empty-clause-err
 returns-then-is_empty-clause-err g c =
@@ -107,6 +107,6 @@ returns-in-Some-columns-clause-err g c =
     let sound : malformed form s.number (line_of r, c.args.inside) ≡ None = sym c.malformed.ensures ∙ c.in_default.is in
     let read : read_of s.number (row_body (line_of r)) ≡ c.read_of.result.now = ap (read_of s.number) body ∙ sym c.read_of.ensures in
     let filled : is_empty_row s.number (row_body (line_of r)) ≡ false = rw read (sym c.is_empty.ensures ∙ c.if-is_empty.false) in
-    let cell = answer_said form answer (state_of s held) (line_of r) (row_said form s.number c.in-Some-columns.columns (row_body (line_of r))) in
+    let cell = filled_step form answer (state_of s held) (line_of r) (Some c.in-Some-columns.columns) in
     let is : row_step form answer (state_of s held) (line_of r, c.args.inside) ≡ cell = rw (sound, filled, c.in-Some-columns.is) refl in
-    IfErr-weaker c.put_cell.result _ _ (λ e h. subst (λ x. StepEnds x (held_of s.columns held) e (sink_use g.W.Sink.taken g.W.Sink.has_failed c.args.out.now c.put_cell.new.out)) (sym is) h) c.put_cell.ensures.err
+    IfErr-weaker c.put_filled.result _ _ (λ e h. subst (λ x. StepEnds x (held_of s.columns held) e (sink_use g.W.Sink.taken g.W.Sink.has_failed c.args.out.now c.put_filled.new.out)) (sym is) h) c.put_filled.ensures.err

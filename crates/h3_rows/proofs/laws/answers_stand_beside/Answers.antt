@@ -1,4 +1,5 @@
 use Rattle.h3_rows.proofs.Kept.{fields_are_kept, pairs_are_kept, rows_are_whole}
+use Rattle.h3_rows.proofs.Marks.{marks_are_kept}
 use Rattle.h3_rows.proofs.ReadBack.{output_reads_back, rows_read_back}
 use Rattle.h3_rows.proofs.Stand.{header_stands, rows_give_back, rows_stand, rows_stand_until}
 use Rattle.h3_rows.proofs.laws.answers_stand_beside.Goals as goal
@@ -17,6 +18,9 @@ returns-clause-give c = rows_give_back
 
 pub returns-clause-whole : goal.returns-clause-whole
 returns-clause-whole c = rows_are_whole
+
+pub returns-clause-marks : goal.returns-clause-marks
+returns-clause-marks c = marks_are_kept
 
 pub returns-clause-kept : goal.returns-clause-kept
 returns-clause-kept c = fields_are_kept
