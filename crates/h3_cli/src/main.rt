@@ -6,7 +6,7 @@ use h3_lines::{AnswerError, Fault, RunError, report, write_all};
 use h3_program::{NamedFile, Retried, SystemFiles, run_words};
 use h3_requests::{Command, IndexFunction};
 use h3_streams::{Sink, Source, StreamFault, Streamed};
-use h3_words::{ArgsError, CommandFile, Words, read_words};
+use h3_words::{ArgsError, CommandFile, Words, read_words, reads_list};
 use std::alloc::Global;
 use std::fs::File;
 use std::io::{ErrorKind, IsTerminal};
@@ -59,20 +59,9 @@ fn awaited_list<'a>(command: &Command) -> Option<&'a str> {
         | Command::GetDirectedEdgeDestinations => {
             Some("h3: reading edges from standard input, one a line\n")
         }
-        Command::CompactCells
-        | Command::UncompactCells { .. }
-        | Command::UncompactCellsSize { .. }
-        | Command::UniteCells
-        | Command::IntersectCells
-        | Command::SubtractCells
-        | Command::AreCoveredCells
-        | Command::CellsToZones
-        | Command::CountCellsInZones
-        | Command::CellsToChildren { .. }
-        | Command::GridDisksUnsafe { .. }
-        | Command::GridDisksDistancesUnsafe { .. }
-        | Command::GridRingsUnsafe { .. }
-        | Command::ForEach(_) => Some("h3: reading cells from standard input, one a line\n"),
+        command if reads_list(*command) => {
+            Some("h3: reading cells from standard input, one a line\n")
+        }
         _ => None,
     }
 }

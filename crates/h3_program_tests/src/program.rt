@@ -79,7 +79,7 @@ fn a_named_file_has_the_bytes_at_its_path(rt: HostRuntime) {
 /// A writer that counts its flushes.
 #[derive(Drop)]
 struct Flushed {
-    bytes: ArrayVec<u8, 4096>,
+    bytes: ArrayVec<u8, 8192>,
     flushes: u8,
 }
 
@@ -241,7 +241,7 @@ fn the_version_is_written_to_standard_output(rt: HostRuntime) {
 /// A stream with room for eight bytes.
 fn nearly_full() -> Streamed<Flushed> {
     let mut bytes = ArrayVec::new();
-    let _ = bytes.try_extend_from_slice(&[b' '; 4088]);
+    let _ = bytes.try_extend_from_slice(&[b' '; 8184]);
     Streamed::new(Flushed { bytes, flushes: 0 })
 }
 

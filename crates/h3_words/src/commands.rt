@@ -126,6 +126,13 @@ fn has_option(command: Command, option: CommandOption) -> bool
     options(command).iter().any(|own| own.id() == option.id())
 }
 
+/// Whether the command reads a list: it has `--field`.
+pub fn reads_list(command: Command) -> bool
+    ensures { result ≡ has_option command CommandOption.Field }
+{
+    has_option(command, Field)
+}
+
 /// The path that the option is given, where the command has the option.
 ///
 /// [`AllocError`] where there is no memory for the path.

@@ -64,6 +64,13 @@ macro_rules! help {
             "\nOptions:\n\
             \x20 -h, --help     Print help\n\
             \x20 -V, --version  Print the version\n\n\
+            Errors, on standard error:\n\
+            \x20 error 13: E_MEMORY_ALLOC         out of memory, in any command; status 1\n\
+            \x20 line 2: error 5: E_CELL_INVALID  the first faulty line of a list; status 1\n\
+            \x20 table: form 1                    the file of --table is not a table; status 3\n\
+            \x20 table: open                      it cannot be opened; status 3\n\
+            \x20 fault: read                      a read failed; status 4\n\n\
+            A - for a file means a file of that name. No file can be the pipe of the list.\n\
             The options, the errors and an example of a command: h3 COMMAND --help\n\
             Of a CSV file: h3 cellsToParents -r 4 --csv --column cell < trips.csv"
         )
@@ -73,7 +80,7 @@ macro_rules! help {
 /// What `h3 --help` prints: the commands by what they are for, in lines of at most 80 characters.
 pub(crate) const HELP: &str = commands!(help! [] [] [] [] [];);
 
-/// The usage of a command that reads a list, and of any other its word.
+/// The usage of a command in the table, or its word if that has none.
 pub(crate) fn list_usage<'a>(command: Command) -> &'a str {
     usage(command).unwrap_or(word(command))
 }

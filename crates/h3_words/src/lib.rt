@@ -9,5 +9,6 @@ mod rows;
 mod table;
 mod words;
 
+pub use commands::reads_list;
 pub use options::CommandFile;
 pub use words::{ArgsError, Words, read_words};

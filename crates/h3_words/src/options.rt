@@ -246,16 +246,16 @@ macro_rules! options {
                 [of_rows!("ragged", "ragged", true, "With a header: rows of any field count")]
                 ("take rows of another number of fields than the header");
             RegionColumn
-                [of_rows!("region-column", "region-column", false, "A table with a header; the cell's column")]
+                [of_rows!("region-column", "region-column", false, "File with a header: its column of cells")]
                 ("NAME", "the name of the column with the cells of the region", "name:");
             RegionField
-                [number_of_field!("region-field", "region-field", "A table; the number of the cell's field")]
+                [number_of_field!("region-field", "region-field", "File of rows: number of its cell field")]
                 ("N", "the number of the field with the cells of the region", "number:");
             ZoneColumn
-                [of_rows!("zone-column", "zone-column", false, "A table with a header; the cell's column")]
+                [of_rows!("zone-column", "zone-column", false, "File with a header: its column of cells")]
                 ("NAME", "the name of the column with the zones", "name:");
             ZoneField
-                [number_of_field!("zone-field", "zone-field", "A table; the number of the cell's field")]
+                [number_of_field!("zone-field", "zone-field", "File of rows: number of its cell field")]
                 ("N", "the number of the field with the zones", "number:");
         }
     };

@@ -41,6 +41,19 @@ static OF_A_FIELD: [(CommandOption, CommandOption, &str, &str); 3] = [
 /// The options that go with a header, as a usage shows them.
 static OF_A_HEADER: [(CommandOption, &str); 2] = [(As, "--as <name>"), (Ragged, "--ragged")];
 
+/// The options by which a list has rows, as a usage shows them.
+const FIELDS: &str = "'--field <number>' or '--column <column>'";
+
+/// The same of a list or a region.
+const FIELDS_WITH_REGION: &str =
+    "'--field <number>', '--column <column>', '--region-field <region-field>' or \
+    '--region-column <region-column>'";
+
+/// The same of a list or zones.
+const FIELDS_WITH_ZONES: &str =
+    "'--field <number>', '--column <column>', '--zone-field <zone-field>' or \
+    '--zone-column <zone-column>'";
+
 /// Why a text is no separator.
 const NO_SEPARATOR: &str =
     "a separator is \\t or one ASCII character, and no letter, digit, hyphen, double quote or line end";
@@ -217,6 +230,17 @@ fn first_field_twice(matches: &ArgMatches<'_>) -> Option<(&'static str, &'static
     None
 }
 
+/// The options by which the list has rows, or the command's file of cells, as a usage shows them.
+fn fields_of_rows(matches: &ArgMatches<'_>) -> &'static str {
+    if Region.is_given(matches) {
+        FIELDS_WITH_REGION
+    } else if Zones.is_given(matches) {
+        FIELDS_WITH_ZONES
+    } else {
+        FIELDS
+    }
+}
+
 /// The first option that is given without what it goes with, and that, as a usage shows them.
 fn first_alone(matches: &ArgMatches<'_>) -> Option<(&'static str, &'static str)> {
     if Header.is_given(matches) && !Field.is_given(matches) {
@@ -225,11 +249,11 @@ fn first_alone(matches: &ArgMatches<'_>) -> Option<(&'static str, &'static str)>
     if !list_has_rows(matches) {
         if !file_has_rows(matches) {
             if let Some(shown) = first_given(matches, &OF_ROWS) {
-                return Some((shown, "'--field <number>' or '--column <column>'"));
+                return Some((shown, fields_of_rows(matches)));
             }
         }
         if KeepGoing.is_given(matches) {
-            return Some(("--keep-going", "'--field <number>' or '--column <column>'"));
+            return Some(("--keep-going", FIELDS));
         }
     }
     if !Column.is_given(matches) && !Header.is_given(matches) {

@@ -30,166 +30,6 @@ macro_rules! with_line_options {
     };
 }
 
-// What the notes of several commands share, with the example of each: a macro, since `concat!`
-// takes literals alone. What is said before the errors comes first.
-macro_rules! notes {
-    (index $($first:literal)*, $($example:literal)+) => {
-        notes!(errors $($first)*; "1 not an index, ", $($example)+)
-    };
-    (cell $($first:literal)*, $($example:literal)+) => {
-        notes!(errors $($first)*; "1 not an index, 5 not a valid cell, ", $($example)+)
-    };
-    (edge $($first:literal)*, $($example:literal)+) => {
-        notes!(errors $($first)*; "1 not an index, 6 not a valid edge, ", $($example)+)
-    };
-    (resolution, $example:literal) => {
-        notes!(errors; "4 not a resolution, ", $example)
-    };
-    (ancestor $($first:literal)*, $($example:literal)+) => {
-        notes!(
-            errors $($first)*;
-            "1 not an index, 5 not a valid cell, 4 not a resolution,\n\
-            12 a resolution finer than the cell's, ",
-            $($example)+
-        )
-    };
-    (descendants $($first:literal)*, $($example:literal)+) => {
-        notes!(
-            errors $($first)*;
-            "1 not an index, 5 not a valid cell,\n\
-            4 not a resolution from the cell's to 15, ",
-            $($example)+
-        )
-    };
-    (below $($first:literal)*, $($example:literal)+) => {
-        notes!(
-            errors $($first)*;
-            "1 not an index, 5 not a valid cell, 4 not a resolution,\n\
-            12 a resolution coarser than a cell's, ",
-            $($example)+
-        )
-    };
-    (overlapping $($first:literal)*, $($example:literal)+) => {
-        notes!(
-            errors $($first)*;
-            "1 not an index, 5 not a valid cell, 10 overlapping cells,\n",
-            $($example)+
-        )
-    };
-    // Of a command that answers its list line by line, with one line or with any number of them: its
-    // errors, the command with its options, and what a line of the list has.
-    (each $errors:ident, $command:literal, $item:literal) => {
-        notes!(
-            rows $errors "The first error is reported with its line, as line 2: error 1: E_FAILED.\n",
-            "each row with its answer at the end",
-            $command,
-            $item
-        )
-    };
-    (several $errors:ident, $command:literal, $item:literal) => {
-        notes!(
-            rows $errors "The first error is reported with its line, as line 2: error 1: E_FAILED.\n",
-            "each row once for each answer, which is at the end",
-            $command,
-            $item
-        )
-    };
-    // Of one that answers about its list as a whole.
-    (whole $errors:ident $($first:literal)*, $command:literal) => {
-        notes!(rows $errors $($first)*, "whose cells are the list", $command, "cell")
-    };
-    (
-        rows $errors:ident $($first:literal)*,
-        $printed:literal,
-        $command:literal,
-        $item:literal
-    ) => {
-        notes!(
-            $errors $($first)*,
-            $command " < " $item "s\nOf a CSV file, " $printed ":\n"
-            $command " --csv --column " $item " < trips.csv"
-        )
-    };
-    (overlaps $($first:literal)*, $($example:literal)+) => {
-        notes!(region $($first)* "The cells of either may repeat and overlap.\n", $($example)+)
-    };
-    (region $($first:literal)+, $($example:literal)+) => {
-        notes!(file $($first)+, "region", "", "\n" " ", "", $($example)+)
-    };
-    (zones $($first:literal)*, $($example:literal)+) => {
-        notes!(
-            file $($first)* "The zone of a cell is the one that is the cell or its ancestor.\n",
-            "zones",
-            ", overlapping\nzones as zones: error 10: E_DUPLICATE_INPUT",
-            " " "\n",
-            "10 overlapping zones,\n",
-            $($example)+
-        )
-    };
-    // The line ends before "be opened is" or after it.
-    (
-        file $($first:literal)+,
-        $kind:literal,
-        $overlap:literal,
-        $before:literal $after:literal,
-        $errors:literal,
-        $($example:literal)+
-    ) => {
-        notes!(
-            errors $($first)+
-            "The first error is reported with its line, as line 2: error 5: E_CELL_INVALID,\n\
-            one in the file as " $kind ": line 2: error 5: E_CELL_INVALID" $overlap
-            ". A file that cannot" $before "be opened is" $after $kind
-            ": open, status 3; a read that fails is fault: read, status 4.\n\
-            A - means a file of that name. The file cannot be the pipe of the list.\n";
-            "1 not an index, 5 not a valid cell, " $errors,
-            $($example)+
-        )
-    };
-    (radius $($first:literal)*, $($example:literal)+) => {
-        notes!(table $($first)*; "1 not an index, 5 not a valid cell,\n", " ", $($example)+)
-    };
-    (walks $($first:literal)*, $($example:literal)+) => {
-        notes!(
-            radius $($first)* "A walk that meets an error prints none of its cells.\n\
-            The table cannot be the pipe of the list.\n",
-            $($example)+
-        )
-    };
-    (destination $($first:literal)*, $($example:literal)+) => {
-        notes!(table $($first)*; "1 not an index, 6 not a valid edge,\n", " ", $($example)+)
-    };
-    (destinations $($first:literal)*, $($example:literal)+) => {
-        notes!(destination $($first)* "The table cannot be the pipe of the list.\n", $($example)+)
-    };
-    (neighbors $errors:literal, $end:literal, $example:literal) => {
-        notes!(
-            table "Error 1 or 5 is that of -c, if it has one, else that of --to.\n";
-            "1 not an index, 5 not a valid cell, 12 different resolutions,\n" $errors,
-            $end,
-            $example
-        )
-    };
-    (table $($first:literal)*; $($errors:literal)+, $end:literal, $($example:literal)+) => {
-        notes!(
-            errors $($first)*
-            "A refused table has status 3: table: form 1 if the file is not a table, and\n\
-            table: open if it cannot be opened. A - means a file of that name.\n";
-            $($errors)+ "9 a step that starts or ends in a pentagon base cell," $end,
-            $($example)+ "\nTo make a table from H3's source: h3-table baseCells.c -o h3.csv"
-        )
-    };
-    (errors $($first:literal)*; $($errors:literal)+, $($example:literal)+) => {
-        concat!(
-            $($first,)*
-            "Errors: ",
-            $($errors,)+
-            "13 out of memory\nExample: ",
-            $($example),+
-        )
-    };
-}
-
 // The table of all commands, in the order in which `clap` is given them: `commands!(m! ARGS)` expands to
 // `m! { ARGS ROWS }`. A row has:
 // - the `Command`, with the fields that are read of the words;
@@ -205,7 +45,8 @@ macro_rules! commands {
                 [cells "isValidCell                 Whether an index is a valid cell"]
                 {
                     about: "Whether an index is a valid cell",
-                    notes: notes!(index, "h3 isValidCell -c 85283473fffffff"),
+                    notes: "Errors: 1 not an index\n\
+                        Example: h3 isValidCell -c 85283473fffffff",
                     usage: None,
                 };
             (GetResolution { cell })
@@ -213,7 +54,8 @@ macro_rules! commands {
                 [cells "getResolution               The resolution of a cell"]
                 {
                     about: "The resolution of a cell",
-                    notes: notes!(cell, "h3 getResolution -c 85283473fffffff"),
+                    notes: "Errors: 1 not an index, 5 not a valid cell\n\
+                        Example: h3 getResolution -c 85283473fffffff",
                     usage: None,
                 };
             (GetBaseCellNumber { cell })
@@ -221,7 +63,8 @@ macro_rules! commands {
                 [cells "getBaseCellNumber           The base cell of a cell"]
                 {
                     about: "The base cell of a cell",
-                    notes: notes!(cell, "h3 getBaseCellNumber -c 85283473fffffff"),
+                    notes: "Errors: 1 not an index, 5 not a valid cell\n\
+                        Example: h3 getBaseCellNumber -c 85283473fffffff",
                     usage: None,
                 };
             (IsPentagon { cell })
@@ -229,7 +72,8 @@ macro_rules! commands {
                 [cells "isPentagon                  Whether a cell is a pentagon"]
                 {
                     about: "Whether a cell is a pentagon",
-                    notes: notes!(cell, "h3 isPentagon -c 85283473fffffff"),
+                    notes: "Errors: 1 not an index, 5 not a valid cell\n\
+                        Example: h3 isPentagon -c 85283473fffffff",
                     usage: None,
                 };
             (IsResClassIII { cell })
@@ -237,7 +81,8 @@ macro_rules! commands {
                 [cells "isResClassIII               Whether the resolution of a cell is Class III"]
                 {
                     about: "Whether the resolution of a cell is Class III",
-                    notes: notes!(cell, "h3 isResClassIII -c 85283473fffffff"),
+                    notes: "Errors: 1 not an index, 5 not a valid cell\n\
+                        Example: h3 isResClassIII -c 85283473fffffff",
                     usage: None,
                 };
             (GetNumCells { res })
@@ -245,7 +90,8 @@ macro_rules! commands {
                 [cells "getNumCells                 How many cells a resolution has"]
                 {
                     about: "How many cells a resolution has",
-                    notes: notes!(resolution, "h3 getNumCells -r 5"),
+                    notes: "Errors: 4 not a resolution\n\
+                        Example: h3 getNumCells -r 5",
                     usage: None,
                 };
             (GetRes0Cells)
@@ -253,7 +99,7 @@ macro_rules! commands {
                 [cells "getRes0Cells                The 122 cells of resolution 0"]
                 {
                     about: "The 122 cells of resolution 0",
-                    notes: notes!(errors; "", "h3 getRes0Cells"),
+                    notes: "Example: h3 getRes0Cells",
                     usage: None,
                 };
             (GetPentagons { res })
@@ -261,7 +107,8 @@ macro_rules! commands {
                 [cells "getPentagons                The twelve pentagons of a resolution"]
                 {
                     about: "The twelve pentagons of a resolution",
-                    notes: notes!(resolution, "h3 getPentagons -r 5"),
+                    notes: "Errors: 4 not a resolution\n\
+                        Example: h3 getPentagons -r 5",
                     usage: None,
                 };
             (CellToParent { cell, res })
@@ -269,7 +116,9 @@ macro_rules! commands {
                 [hierarchy "cellToParent                The ancestor of a cell at a resolution"]
                 {
                     about: "The ancestor of a cell at a resolution",
-                    notes: notes!(ancestor, "h3 cellToParent -c 85283473fffffff -r 4"),
+                    notes: "Errors: 1 not an index, 5 not a valid cell, 4 not a resolution,\n\
+                        12 a resolution finer than the cell's\n\
+                        Example: h3 cellToParent -c 85283473fffffff -r 4",
                     usage: None,
                 };
             (CellToCenterChild { cell, res })
@@ -277,7 +126,9 @@ macro_rules! commands {
                 [hierarchy "cellToCenterChild           The center descendant of a cell at a resolution"]
                 {
                     about: "The center descendant of a cell at a resolution",
-                    notes: notes!(descendants, "h3 cellToCenterChild -c 85283473fffffff -r 6"),
+                    notes: "Errors: 1 not an index, 5 not a valid cell,\n\
+                        4 not a resolution from the cell's to 15\n\
+                        Example: h3 cellToCenterChild -c 85283473fffffff -r 6",
                     usage: None,
                 };
             (CellToLastChild { cell, res })
@@ -285,11 +136,11 @@ macro_rules! commands {
                 [hierarchy "cellToLastChild             The last descendant of a cell at a resolution"]
                 {
                     about: "The last descendant of a cell at a resolution, which has the greatest number",
-                    notes: notes!(
-                        descendants "The cells of the resolution from the center descendant to the last one, by\n\
-                        number, are the cell's descendants there, and no others.\n",
-                        "h3 cellToLastChild -c 85283473fffffff -r 6"
-                    ),
+                    notes: "The cells of the resolution from the center descendant to the last one, by\n\
+                        number, are the cell's descendants there, and no others.\n\
+                        Errors: 1 not an index, 5 not a valid cell,\n\
+                        4 not a resolution from the cell's to 15\n\
+                        Example: h3 cellToLastChild -c 85283473fffffff -r 6",
                     usage: None,
                 };
             (CellToChildren { cell, res })
@@ -297,7 +148,9 @@ macro_rules! commands {
                 [hierarchy "cellToChildren              The descendants of a cell at a resolution"]
                 {
                     about: "The descendants of a cell at a resolution, ascending",
-                    notes: notes!(descendants, "h3 cellToChildren -c 85283473fffffff -r 6"),
+                    notes: "Errors: 1 not an index, 5 not a valid cell,\n\
+                        4 not a resolution from the cell's to 15\n\
+                        Example: h3 cellToChildren -c 85283473fffffff -r 6",
                     usage: None,
                 };
             (CellToChildrenSize { cell, res })
@@ -305,7 +158,9 @@ macro_rules! commands {
                 [hierarchy "cellToChildrenSize          How many descendants a cell has at a resolution"]
                 {
                     about: "How many descendants a cell has at a resolution",
-                    notes: notes!(descendants, "h3 cellToChildrenSize -c 85283473fffffff -r 6"),
+                    notes: "Errors: 1 not an index, 5 not a valid cell,\n\
+                        4 not a resolution from the cell's to 15\n\
+                        Example: h3 cellToChildrenSize -c 85283473fffffff -r 6",
                     usage: None,
                 };
             (CellToChildPos { cell, res })
@@ -313,7 +168,9 @@ macro_rules! commands {
                 [hierarchy "cellToChildPos              The position of a cell below an ancestor"]
                 {
                     about: "The position of a cell among the descendants of its ancestor at a resolution",
-                    notes: notes!(ancestor, "h3 cellToChildPos -c 85283473fffffff -r 4"),
+                    notes: "Errors: 1 not an index, 5 not a valid cell, 4 not a resolution,\n\
+                        12 a resolution finer than the cell's\n\
+                        Example: h3 cellToChildPos -c 85283473fffffff -r 4",
                     usage: None,
                 };
             (ChildPosToCell { position, cell, res })
@@ -321,25 +178,22 @@ macro_rules! commands {
                 [hierarchy "childPosToCell              The descendant of a cell at a position"]
                 {
                     about: "The descendant of a cell at a position among those at a resolution",
-                    notes: notes!(
-                        errors;
-                        "1 not an index, 5 not a valid cell, 4 not a resolution,\n\
-                        12 a resolution coarser than the cell's, 2 position out of range,\n",
-                        "h3 childPosToCell --position 3 -c 85283473fffffff -r 6"
-                    ),
-                    usage: None,
+                    notes: "Errors: 1 not an index, 5 not a valid cell, 4 not a resolution,\n\
+                        12 a resolution coarser than the cell's, 2 position out of range\n\
+                        Example: h3 childPosToCell --position 3 -c 85283473fffffff -r 6",
+                    usage: Some("h3 childPosToCell --position <position> -c <cell> -r <resolution>"),
                 };
             (CompactCells)
                 { word: "compactCells", options: with_list_options!() }
                 [lists "compactCells                Compact a list of cells"]
                 {
-                    about: "Compact the list of cells on standard input, of any resolutions; overlapping cells are error 10",
-                    notes: notes!(
-                        whole overlapping
-                        "A complete set of siblings becomes its parent. If cells overlap: uniteCells.\n"
-                        "With --field 1, an error is reported with its line.\n",
-                        "h3 compactCells"
-                    ),
+                    about: "Compact the list of cells on standard input, of any resolutions",
+                    notes: "A complete set of siblings becomes its parent. If cells overlap: uniteCells.\n\
+                        An error is reported without a line; with --field 1, error 1 or 5 has its line.\n\
+                        Errors: 1 not an index, 5 not a valid cell, 10 overlapping cells\n\
+                        Example: h3 compactCells < cells\n\
+                        Of a CSV file, whose cells are the list:\n\
+                        h3 compactCells --csv --column cell < trips.csv",
                     usage: Some("h3 compactCells < cells"),
                 };
             (UncompactCells { res })
@@ -347,10 +201,12 @@ macro_rules! commands {
                 [lists "uncompactCells              The descendants of the cells at a resolution"]
                 {
                     about: "The descendants at a resolution of each cell listed on standard input",
-                    notes: notes!(
-                        whole below "With --field 1, an error is reported with its line.\n",
-                        "h3 uncompactCells -r 6"
-                    ),
+                    notes: "An error is reported without a line; with --field 1, error 1 or 5 has its line.\n\
+                        Errors: 1 not an index, 5 not a valid cell, 4 not a resolution,\n\
+                        12 a resolution coarser than a cell's\n\
+                        Example: h3 uncompactCells -r 6 < cells\n\
+                        Of a CSV file, whose cells are the list:\n\
+                        h3 uncompactCells -r 6 --csv --column cell < trips.csv",
                     usage: Some("h3 uncompactCells --resolution <resolution> < cells"),
                 };
             (UncompactCellsSize { res })
@@ -358,12 +214,12 @@ macro_rules! commands {
                 [lists "uncompactCellsSize          How many cells uncompactCells prints"]
                 {
                     about: "How many cells uncompactCells prints for the cells listed on standard input",
-                    notes: notes!(
-                        whole below
-                        "Cells that repeat or overlap count again. The first faulty line is reported\n\
-                        with its number, as line 2: error 5: E_CELL_INVALID.\n",
-                        "h3 uncompactCellsSize -r 6"
-                    ),
+                    notes: "Cells that repeat or overlap count again.\n\
+                        Errors: 1 not an index, 5 not a valid cell, 4 not a resolution,\n\
+                        12 a resolution coarser than a cell's\n\
+                        Example: h3 uncompactCellsSize -r 6 < cells\n\
+                        Of a CSV file, whose cells are the list:\n\
+                        h3 uncompactCellsSize -r 6 --csv --column cell < trips.csv",
                     usage: Some("h3 uncompactCellsSize --resolution <resolution> < cells"),
                 };
             (UniteCells)
@@ -371,11 +227,10 @@ macro_rules! commands {
                 [lists "uniteCells                  Union of the cells, compacted"]
                 {
                     about: "Union of the cells on standard input, compacted; they may repeat and overlap",
-                    notes: notes!(
-                        whole cell
-                        "The first error is reported with its line, as line 2: error 1: E_FAILED.\n",
-                        "h3 uniteCells"
-                    ),
+                    notes: "Errors: 1 not an index, 5 not a valid cell\n\
+                        Example: h3 uniteCells < cells\n\
+                        Of a CSV file, whose cells are the list:\n\
+                        h3 uniteCells --csv --column cell < trips.csv",
                     usage: Some("h3 uniteCells < cells"),
                 };
             (IntersectCells)
@@ -383,7 +238,18 @@ macro_rules! commands {
                 [lists "intersectCells              Intersection of the cells and a region, compacted"]
                 {
                     about: "Intersection of the cells on standard input and a region, compacted",
-                    notes: notes!(whole overlaps, "h3 intersectCells --region region"),
+                    notes: "The cells of either may repeat and overlap.\n\
+                        With --region-column the file is a table with a header, with --region-field one\n\
+                        without. Its errors:\n\
+                        \x20 region: line 2: error 5: E_CELL_INVALID  its first faulty line, status 1\n\
+                        \x20 region: open                             it cannot be opened, status 3\n\
+                        \x20 region: column: not found                its header lacks the column, status 3\n\
+                        Errors: 1 not an index, 5 not a valid cell\n\
+                        Example: h3 intersectCells --region region < cells\n\
+                        Of a CSV file, whose cells are the list:\n\
+                        h3 intersectCells --region region --csv --column cell < trips.csv\n\
+                        Of a region in a CSV file:\n\
+                        h3 intersectCells --region region.csv --region-column cell --csv < cells",
                     usage: Some("h3 intersectCells --region <region> < cells"),
                 };
             (SubtractCells)
@@ -391,7 +257,18 @@ macro_rules! commands {
                 [lists "subtractCells               The cells minus a region, compacted"]
                 {
                     about: "The cells on standard input minus a region, compacted",
-                    notes: notes!(whole overlaps, "h3 subtractCells --region region"),
+                    notes: "The cells of either may repeat and overlap.\n\
+                        With --region-column the file is a table with a header, with --region-field one\n\
+                        without. Its errors:\n\
+                        \x20 region: line 2: error 5: E_CELL_INVALID  its first faulty line, status 1\n\
+                        \x20 region: open                             it cannot be opened, status 3\n\
+                        \x20 region: column: not found                its header lacks the column, status 3\n\
+                        Errors: 1 not an index, 5 not a valid cell\n\
+                        Example: h3 subtractCells --region region < cells\n\
+                        Of a CSV file, whose cells are the list:\n\
+                        h3 subtractCells --region region --csv --column cell < trips.csv\n\
+                        Of a region in a CSV file:\n\
+                        h3 subtractCells --region region.csv --region-column cell --csv < cells",
                     usage: Some("h3 subtractCells --region <region> < cells"),
                 };
             (AreCoveredCells)
@@ -399,13 +276,18 @@ macro_rules! commands {
                 [lists "areCoveredCells             Whether a region covers each cell"]
                 {
                     about: "Whether a region covers each cell listed on standard input",
-                    notes: notes!(
-                        rows region
-                        "A region covers its cells and their descendants; its cells may overlap.\n",
-                        "each row with its answer at the end",
-                        "h3 areCoveredCells --region region",
-                        "cell"
-                    ),
+                    notes: "A region covers its cells and their descendants; its cells may overlap.\n\
+                        With --region-column the file is a table with a header, with --region-field one\n\
+                        without. Its errors:\n\
+                        \x20 region: line 2: error 5: E_CELL_INVALID  its first faulty line, status 1\n\
+                        \x20 region: open                             it cannot be opened, status 3\n\
+                        \x20 region: column: not found                its header lacks the column, status 3\n\
+                        Errors: 1 not an index, 5 not a valid cell\n\
+                        Example: h3 areCoveredCells --region region < cells\n\
+                        Of a CSV file, each row with its answer at the end:\n\
+                        h3 areCoveredCells --region region --csv --column cell < trips.csv\n\
+                        Of a region in a CSV file:\n\
+                        h3 areCoveredCells --region region.csv --region-column cell --csv < cells",
                     usage: Some("h3 areCoveredCells --region <region> < cells"),
                 };
             (CellsToZones)
@@ -413,12 +295,19 @@ macro_rules! commands {
                 [lists "cellsToZones                The zone of each cell"]
                 {
                     about: "The zone of each cell listed on standard input, or 0 if it has none",
-                    notes: notes!(
-                        rows zones,
-                        "each row with its zone at the end",
-                        "h3 cellsToZones --zones zones",
-                        "cell"
-                    ),
+                    notes: "The zone of a cell is the one that is the cell or its ancestor.\n\
+                        With --zone-column the file is a table with a header, with --zone-field one\n\
+                        without. Its errors:\n\
+                        \x20 zones: line 2: error 5: E_CELL_INVALID  its first faulty line, status 1\n\
+                        \x20 zones: error 10: E_DUPLICATE_INPUT      overlapping zones, status 1\n\
+                        \x20 zones: open                             it cannot be opened, status 3\n\
+                        \x20 zones: column: not found                its header lacks the column, status 3\n\
+                        Errors: 1 not an index, 5 not a valid cell, 10 overlapping zones\n\
+                        Example: h3 cellsToZones --zones zones < cells\n\
+                        Of a CSV file, each row with its zone at the end:\n\
+                        h3 cellsToZones --zones zones --csv --column cell < trips.csv\n\
+                        Of zones in a CSV file:\n\
+                        h3 cellsToZones --zones zones.csv --zone-column cell --csv < cells",
                     usage: Some("h3 cellsToZones --zones <zones> < cells"),
                 };
             (CountCellsInZones)
@@ -426,12 +315,20 @@ macro_rules! commands {
                 [lists "countCellsInZones           Count the cells in each zone"]
                 {
                     about: "Count the cells on standard input in each zone, and those in none",
-                    notes: notes!(
-                        whole zones
-                        "Each line has a zone and its count; the last one has 0 and the count of cells\n\
-                        in no zone. ",
-                        "h3 countCellsInZones --zones zones"
-                    ),
+                    notes: "Each line has a zone and its count; the last one has 0 and the count of cells\n\
+                        in no zone. The zone of a cell is the one that is the cell or its ancestor.\n\
+                        With --zone-column the file is a table with a header, with --zone-field one\n\
+                        without. Its errors:\n\
+                        \x20 zones: line 2: error 5: E_CELL_INVALID  its first faulty line, status 1\n\
+                        \x20 zones: error 10: E_DUPLICATE_INPUT      overlapping zones, status 1\n\
+                        \x20 zones: open                             it cannot be opened, status 3\n\
+                        \x20 zones: column: not found                its header lacks the column, status 3\n\
+                        Errors: 1 not an index, 5 not a valid cell, 10 overlapping zones\n\
+                        Example: h3 countCellsInZones --zones zones < cells\n\
+                        Of a CSV file, whose cells are the list:\n\
+                        h3 countCellsInZones --zones zones --csv --column cell < trips.csv\n\
+                        Of zones in a CSV file:\n\
+                        h3 countCellsInZones --zones zones.csv --zone-column cell --csv < cells",
                     usage: Some("h3 countCellsInZones --zones <zones> < cells"),
                 };
             (GridDiskUnsafe { cell, k })
@@ -439,10 +336,10 @@ macro_rules! commands {
                 [table "gridDiskUnsafe              The cells within a radius of a cell, ring by ring"]
                 {
                     about: "The cells within a radius of a cell, ring by ring",
-                    notes: notes!(
-                        radius,
-                        "h3 gridDiskUnsafe -c 85283473fffffff -k 1 --table h3.csv"
-                    ),
+                    notes: "Errors: 1 not an index, 5 not a valid cell,\n\
+                        9 a step that starts or ends in a pentagon base cell\n\
+                        Example: h3 gridDiskUnsafe -c 85283473fffffff -k 1 --table h3.csv\n\
+                        To make a table from H3's source: h3-table baseCells.c -o h3.csv",
                     usage: None,
                 };
             (GridDiskDistancesUnsafe { cell, k })
@@ -450,10 +347,10 @@ macro_rules! commands {
                 [table "gridDiskDistancesUnsafe     The same, each with the number of its ring"]
                 {
                     about: "The cells within a radius of a cell, each with the number of its ring",
-                    notes: notes!(
-                        radius,
-                        "h3 gridDiskDistancesUnsafe -c 85283473fffffff -k 1 --table h3.csv"
-                    ),
+                    notes: "Errors: 1 not an index, 5 not a valid cell,\n\
+                        9 a step that starts or ends in a pentagon base cell\n\
+                        Example: h3 gridDiskDistancesUnsafe -c 85283473fffffff -k 1 --table h3.csv\n\
+                        To make a table from H3's source: h3-table baseCells.c -o h3.csv",
                     usage: None,
                 };
             (GridRingUnsafe { cell, k })
@@ -461,10 +358,10 @@ macro_rules! commands {
                 [table "gridRingUnsafe              The cells of the ring of a radius around a cell"]
                 {
                     about: "The cells of the ring of a radius around a cell",
-                    notes: notes!(
-                        radius,
-                        "h3 gridRingUnsafe -c 85283473fffffff -k 1 --table h3.csv"
-                    ),
+                    notes: "Errors: 1 not an index, 5 not a valid cell,\n\
+                        9 a step that starts or ends in a pentagon base cell\n\
+                        Example: h3 gridRingUnsafe -c 85283473fffffff -k 1 --table h3.csv\n\
+                        To make a table from H3's source: h3-table baseCells.c -o h3.csv",
                     usage: None,
                 };
             (AreNeighborCells { cell, to })
@@ -472,11 +369,12 @@ macro_rules! commands {
                 [table "areNeighborCells            Whether two cells are neighbors"]
                 {
                     about: "Whether two cells are neighbors",
-                    notes: notes!(
-                        neighbors "",
-                        " ",
-                        "h3 areNeighborCells -c 85283473fffffff --to 85283477fffffff --table h3.csv"
-                    ),
+                    notes: "Error 1 or 5 is that of -c, if it has one, else that of --to.\n\
+                        Errors: 1 not an index, 5 not a valid cell, 12 different resolutions,\n\
+                        9 a step that starts or ends in a pentagon base cell\n\
+                        Example:\n\
+                        h3 areNeighborCells -c 85283473fffffff --to 85283477fffffff --table h3.csv\n\
+                        To make a table from H3's source: h3-table baseCells.c -o h3.csv",
                     usage: None,
                 };
             (CellsToDirectedEdge { cell, to })
@@ -484,11 +382,12 @@ macro_rules! commands {
                 [table "cellsToDirectedEdge         The directed edge from a cell to its neighbor"]
                 {
                     about: "The directed edge from a cell to its neighbor",
-                    notes: notes!(
-                        neighbors "11 not neighbors, ",
-                        "\n",
-                        "h3 cellsToDirectedEdge -c 85283473fffffff --to 85283477fffffff --table h3.csv"
-                    ),
+                    notes: "Error 1 or 5 is that of -c, if it has one, else that of --to.\n\
+                        Errors: 1 not an index, 5 not a valid cell, 12 different resolutions,\n\
+                        11 not neighbors, 9 a step that starts or ends in a pentagon base cell\n\
+                        Example:\n\
+                        h3 cellsToDirectedEdge -c 85283473fffffff --to 85283477fffffff --table h3.csv\n\
+                        To make a table from H3's source: h3-table baseCells.c -o h3.csv",
                     usage: None,
                 };
             (IsValidDirectedEdge { edge })
@@ -496,7 +395,8 @@ macro_rules! commands {
                 [edges "isValidDirectedEdge         Whether an index is a valid directed edge"]
                 {
                     about: "Whether an index is a valid directed edge",
-                    notes: notes!(index, "h3 isValidDirectedEdge --edge 115283473fffffff"),
+                    notes: "Errors: 1 not an index\n\
+                        Example: h3 isValidDirectedEdge --edge 115283473fffffff",
                     usage: None,
                 };
             (GetDirectedEdgeOrigin { edge })
@@ -504,7 +404,8 @@ macro_rules! commands {
                 [edges "getDirectedEdgeOrigin       The cell that a directed edge leaves"]
                 {
                     about: "The cell that a directed edge leaves",
-                    notes: notes!(edge, "h3 getDirectedEdgeOrigin --edge 115283473fffffff"),
+                    notes: "Errors: 1 not an index, 6 not a valid edge\n\
+                        Example: h3 getDirectedEdgeOrigin --edge 115283473fffffff",
                     usage: None,
                 };
             (GetDirectedEdgeDestination { edge })
@@ -512,10 +413,10 @@ macro_rules! commands {
                 [table "getDirectedEdgeDestination  The cell that a directed edge leads to"]
                 {
                     about: "The cell that a directed edge leads to",
-                    notes: notes!(
-                        destination,
-                        "h3 getDirectedEdgeDestination --edge 115283473fffffff --table h3.csv"
-                    ),
+                    notes: "Errors: 1 not an index, 6 not a valid edge,\n\
+                        9 a step that starts or ends in a pentagon base cell\n\
+                        Example: h3 getDirectedEdgeDestination --edge 115283473fffffff --table h3.csv\n\
+                        To make a table from H3's source: h3-table baseCells.c -o h3.csv",
                     usage: None,
                 };
             (OriginToDirectedEdges { cell })
@@ -523,7 +424,8 @@ macro_rules! commands {
                 [edges "originToDirectedEdges       The directed edges that leave a cell"]
                 {
                     about: "The directed edges that leave a cell",
-                    notes: notes!(cell, "h3 originToDirectedEdges -c 85283473fffffff"),
+                    notes: "Errors: 1 not an index, 5 not a valid cell\n\
+                        Example: h3 originToDirectedEdges -c 85283473fffffff",
                     usage: None,
                 };
             (ForEach(IsValidCell))
@@ -531,7 +433,10 @@ macro_rules! commands {
                 [lists "areValidCells               Whether each index is a valid cell"]
                 {
                     about: "Whether each index listed on standard input is a valid cell",
-                    notes: notes!(each index, "h3 areValidCells", "cell"),
+                    notes: "Errors: 1 not an index\n\
+                        Example: h3 areValidCells < cells\n\
+                        Of a CSV file, each row with its answer at the end:\n\
+                        h3 areValidCells --csv --column cell < trips.csv",
                     usage: Some("h3 areValidCells < cells"),
                 };
             (ForEach(IsValidDirectedEdge))
@@ -539,7 +444,10 @@ macro_rules! commands {
                 [lists "areValidDirectedEdges       Whether each index is a valid directed edge"]
                 {
                     about: "Whether each index listed on standard input is a valid directed edge",
-                    notes: notes!(each index, "h3 areValidDirectedEdges", "edge"),
+                    notes: "Errors: 1 not an index\n\
+                        Example: h3 areValidDirectedEdges < edges\n\
+                        Of a CSV file, each row with its answer at the end:\n\
+                        h3 areValidDirectedEdges --csv --column edge < trips.csv",
                     usage: Some("h3 areValidDirectedEdges < edges"),
                 };
             (ForEach(GetResolution))
@@ -547,7 +455,10 @@ macro_rules! commands {
                 [lists "getResolutions              The resolution of each cell"]
                 {
                     about: "The resolution of each cell listed on standard input",
-                    notes: notes!(each cell, "h3 getResolutions", "cell"),
+                    notes: "Errors: 1 not an index, 5 not a valid cell\n\
+                        Example: h3 getResolutions < cells\n\
+                        Of a CSV file, each row with its answer at the end:\n\
+                        h3 getResolutions --csv --column cell < trips.csv",
                     usage: Some("h3 getResolutions < cells"),
                 };
             (ForEach(GetBaseCellNumber))
@@ -555,7 +466,10 @@ macro_rules! commands {
                 [lists "getBaseCellNumbers          The base cell of each cell"]
                 {
                     about: "The base cell of each cell listed on standard input",
-                    notes: notes!(each cell, "h3 getBaseCellNumbers", "cell"),
+                    notes: "Errors: 1 not an index, 5 not a valid cell\n\
+                        Example: h3 getBaseCellNumbers < cells\n\
+                        Of a CSV file, each row with its answer at the end:\n\
+                        h3 getBaseCellNumbers --csv --column cell < trips.csv",
                     usage: Some("h3 getBaseCellNumbers < cells"),
                 };
             (ForEach(IsPentagon))
@@ -563,7 +477,10 @@ macro_rules! commands {
                 [lists "arePentagons                Whether each cell is a pentagon"]
                 {
                     about: "Whether each cell listed on standard input is a pentagon",
-                    notes: notes!(each cell, "h3 arePentagons", "cell"),
+                    notes: "Errors: 1 not an index, 5 not a valid cell\n\
+                        Example: h3 arePentagons < cells\n\
+                        Of a CSV file, each row with its answer at the end:\n\
+                        h3 arePentagons --csv --column cell < trips.csv",
                     usage: Some("h3 arePentagons < cells"),
                 };
             (ForEach(IsResClassIII))
@@ -571,7 +488,10 @@ macro_rules! commands {
                 [lists "areResClassIII              Whether the resolution of each cell is Class III"]
                 {
                     about: "Whether the resolution of each cell listed on standard input is Class III",
-                    notes: notes!(each cell, "h3 areResClassIII", "cell"),
+                    notes: "Errors: 1 not an index, 5 not a valid cell\n\
+                        Example: h3 areResClassIII < cells\n\
+                        Of a CSV file, each row with its answer at the end:\n\
+                        h3 areResClassIII --csv --column cell < trips.csv",
                     usage: Some("h3 areResClassIII < cells"),
                 };
             (ForEach(CellToParent { res }))
@@ -579,11 +499,11 @@ macro_rules! commands {
                 [lists "cellsToParents              The ancestor of each cell at a resolution"]
                 {
                     about: "The ancestor at a resolution of each cell listed on standard input",
-                    notes: notes!(
-                        each ancestor,
-                        "h3 cellsToParents -r 4",
-                        "cell"
-                    ),
+                    notes: "Errors: 1 not an index, 5 not a valid cell, 4 not a resolution,\n\
+                        12 a resolution finer than the cell's\n\
+                        Example: h3 cellsToParents -r 4 < cells\n\
+                        Of a CSV file, each row with its answer at the end:\n\
+                        h3 cellsToParents -r 4 --csv --column cell < trips.csv",
                     usage: Some("h3 cellsToParents --resolution <resolution> < cells"),
                 };
             (ForEach(CellToCenterChild { res }))
@@ -591,7 +511,11 @@ macro_rules! commands {
                 [lists "cellsToCenterChildren       The center descendant of each cell"]
                 {
                     about: "The center descendant at a resolution of each cell listed on standard input",
-                    notes: notes!(each descendants, "h3 cellsToCenterChildren -r 6", "cell"),
+                    notes: "Errors: 1 not an index, 5 not a valid cell,\n\
+                        4 not a resolution from the cell's to 15\n\
+                        Example: h3 cellsToCenterChildren -r 6 < cells\n\
+                        Of a CSV file, each row with its answer at the end:\n\
+                        h3 cellsToCenterChildren -r 6 --csv --column cell < trips.csv",
                     usage: Some("h3 cellsToCenterChildren --resolution <resolution> < cells"),
                 };
             (ForEach(CellToLastChild { res }))
@@ -599,7 +523,11 @@ macro_rules! commands {
                 [lists "cellsToLastChildren         The last descendant of each cell"]
                 {
                     about: "The last descendant at a resolution of each cell listed on standard input",
-                    notes: notes!(each descendants, "h3 cellsToLastChildren -r 6", "cell"),
+                    notes: "Errors: 1 not an index, 5 not a valid cell,\n\
+                        4 not a resolution from the cell's to 15\n\
+                        Example: h3 cellsToLastChildren -r 6 < cells\n\
+                        Of a CSV file, each row with its answer at the end:\n\
+                        h3 cellsToLastChildren -r 6 --csv --column cell < trips.csv",
                     usage: Some("h3 cellsToLastChildren --resolution <resolution> < cells"),
                 };
             (CellsToChildren { res })
@@ -607,7 +535,11 @@ macro_rules! commands {
                 [lists "cellsToChildren             The descendants of each cell at a resolution"]
                 {
                     about: "The descendants at a resolution of each cell listed on standard input, ascending",
-                    notes: notes!(several descendants, "h3 cellsToChildren -r 6", "cell"),
+                    notes: "Errors: 1 not an index, 5 not a valid cell,\n\
+                        4 not a resolution from the cell's to 15\n\
+                        Example: h3 cellsToChildren -r 6 < cells\n\
+                        Of a CSV file, each row once for each answer, which is at the end:\n\
+                        h3 cellsToChildren -r 6 --csv --column cell < trips.csv",
                     usage: Some("h3 cellsToChildren --resolution <resolution> < cells"),
                 };
             (ForEach(CellToChildrenSize { res }))
@@ -615,15 +547,23 @@ macro_rules! commands {
                 [lists "cellsToChildrenSizes        How many descendants each cell has"]
                 {
                     about: "How many descendants at a resolution each cell listed on standard input has",
-                    notes: notes!(each descendants, "h3 cellsToChildrenSizes -r 6", "cell"),
+                    notes: "Errors: 1 not an index, 5 not a valid cell,\n\
+                        4 not a resolution from the cell's to 15\n\
+                        Example: h3 cellsToChildrenSizes -r 6 < cells\n\
+                        Of a CSV file, each row with its answer at the end:\n\
+                        h3 cellsToChildrenSizes -r 6 --csv --column cell < trips.csv",
                     usage: Some("h3 cellsToChildrenSizes --resolution <resolution> < cells"),
                 };
             (ForEach(CellToChildPos { res }))
                 { word: "cellsToChildPositions", options: with_line_options!(Resolution) }
                 [lists "cellsToChildPositions       The position of each cell below an ancestor"]
                 {
-                    about: "The position of each cell listed on standard input among the descendants of its ancestor at a resolution",
-                    notes: notes!(each ancestor, "h3 cellsToChildPositions -r 4", "cell"),
+                    about: "The position below its ancestor at a resolution of each cell on standard input",
+                    notes: "Errors: 1 not an index, 5 not a valid cell, 4 not a resolution,\n\
+                        12 a resolution finer than the cell's\n\
+                        Example: h3 cellsToChildPositions -r 4 < cells\n\
+                        Of a CSV file, each row with its answer at the end:\n\
+                        h3 cellsToChildPositions -r 4 --csv --column cell < trips.csv",
                     usage: Some("h3 cellsToChildPositions --resolution <resolution> < cells"),
                 };
             (GridDisksUnsafe { k })
@@ -631,7 +571,13 @@ macro_rules! commands {
                 [lists "gridDisksUnsafe             The cells within a radius of each cell"]
                 {
                     about: "The cells within a radius of each cell listed on standard input, ring by ring",
-                    notes: notes!(several walks, "h3 gridDisksUnsafe -k 1 --table h3.csv", "cell"),
+                    notes: "A walk that meets an error prints none of its cells.\n\
+                        Errors: 1 not an index, 5 not a valid cell,\n\
+                        9 a step that starts or ends in a pentagon base cell\n\
+                        Example: h3 gridDisksUnsafe -k 1 --table h3.csv < cells\n\
+                        Of a CSV file, each row once for each answer, which is at the end:\n\
+                        h3 gridDisksUnsafe -k 1 --table h3.csv --csv --column cell < trips.csv\n\
+                        To make a table from H3's source: h3-table baseCells.c -o h3.csv",
                     usage: Some("h3 gridDisksUnsafe -k <k> --table <table> < cells"),
                 };
             (GridDisksDistancesUnsafe { k })
@@ -639,7 +585,13 @@ macro_rules! commands {
                 [lists "gridDisksDistancesUnsafe    The same, each with the number of its ring"]
                 {
                     about: "The cells within a radius of each cell on standard input, each with its ring",
-                    notes: notes!(several walks, "h3 gridDisksDistancesUnsafe -k 1 --table h3.csv", "cell"),
+                    notes: "A walk that meets an error prints none of its cells.\n\
+                        Errors: 1 not an index, 5 not a valid cell,\n\
+                        9 a step that starts or ends in a pentagon base cell\n\
+                        Example: h3 gridDisksDistancesUnsafe -k 1 --table h3.csv < cells\n\
+                        Of a CSV file, each row once for each answer, which is at the end:\n\
+                        h3 gridDisksDistancesUnsafe -k 1 --table h3.csv --csv --column cell < trips.csv\n\
+                        To make a table from H3's source: h3-table baseCells.c -o h3.csv",
                     usage: Some("h3 gridDisksDistancesUnsafe -k <k> --table <table> < cells"),
                 };
             (GridRingsUnsafe { k })
@@ -647,7 +599,13 @@ macro_rules! commands {
                 [lists "gridRingsUnsafe             The cells of the ring of a radius around each cell"]
                 {
                     about: "The cells of the ring of a radius around each cell listed on standard input",
-                    notes: notes!(several walks, "h3 gridRingsUnsafe -k 1 --table h3.csv", "cell"),
+                    notes: "A walk that meets an error prints none of its cells.\n\
+                        Errors: 1 not an index, 5 not a valid cell,\n\
+                        9 a step that starts or ends in a pentagon base cell\n\
+                        Example: h3 gridRingsUnsafe -k 1 --table h3.csv < cells\n\
+                        Of a CSV file, each row once for each answer, which is at the end:\n\
+                        h3 gridRingsUnsafe -k 1 --table h3.csv --csv --column cell < trips.csv\n\
+                        To make a table from H3's source: h3-table baseCells.c -o h3.csv",
                     usage: Some("h3 gridRingsUnsafe -k <k> --table <table> < cells"),
                 };
             (ForEach(GetDirectedEdgeOrigin))
@@ -655,7 +613,10 @@ macro_rules! commands {
                 [lists "getDirectedEdgeOrigins      The cell that each directed edge leaves"]
                 {
                     about: "The cell that each directed edge listed on standard input leaves",
-                    notes: notes!(each edge, "h3 getDirectedEdgeOrigins", "edge"),
+                    notes: "Errors: 1 not an index, 6 not a valid edge\n\
+                        Example: h3 getDirectedEdgeOrigins < edges\n\
+                        Of a CSV file, each row with its answer at the end:\n\
+                        h3 getDirectedEdgeOrigins --csv --column edge < trips.csv",
                     usage: Some("h3 getDirectedEdgeOrigins < edges"),
                 };
             (GetDirectedEdgeDestinations)
@@ -663,11 +624,12 @@ macro_rules! commands {
                 [lists "getDirectedEdgeDestinations The cell that each directed edge leads to"]
                 {
                     about: "The cell that each directed edge listed on standard input leads to",
-                    notes: notes!(
-                        each destinations,
-                        "h3 getDirectedEdgeDestinations --table h3.csv",
-                        "edge"
-                    ),
+                    notes: "Errors: 1 not an index, 6 not a valid edge,\n\
+                        9 a step that starts or ends in a pentagon base cell\n\
+                        Example: h3 getDirectedEdgeDestinations --table h3.csv < edges\n\
+                        Of a CSV file, each row with its answer at the end:\n\
+                        h3 getDirectedEdgeDestinations --table h3.csv --csv --column edge < trips.csv\n\
+                        To make a table from H3's source: h3-table baseCells.c -o h3.csv",
                     usage: Some("h3 getDirectedEdgeDestinations --table <table> < edges"),
                 };
             (ForEach(OriginToDirectedEdges))
@@ -675,7 +637,10 @@ macro_rules! commands {
                 [lists "originsToDirectedEdges      The directed edges that leave each cell"]
                 {
                     about: "The directed edges that leave each cell listed on standard input",
-                    notes: notes!(several cell, "h3 originsToDirectedEdges", "cell"),
+                    notes: "Errors: 1 not an index, 5 not a valid cell\n\
+                        Example: h3 originsToDirectedEdges < cells\n\
+                        Of a CSV file, each row once for each answer, which is at the end:\n\
+                        h3 originsToDirectedEdges --csv --column cell < trips.csv",
                     usage: Some("h3 originsToDirectedEdges < cells"),
                 };
         }
@@ -794,7 +759,8 @@ pub(crate) fn notes<'a>(command: Command) -> &'a str {
     commands!(part_of_command! command notes;)
 }
 
-/// The usage of a command that reads a list; `clap` makes that of any other.
+/// The usage of a command that reads a list, or whose usage would be too long; `clap` makes that of any
+/// other.
 pub(crate) fn usage<'a>(command: Command) -> Option<&'a str> {
     commands!(part_of_command! command usage;)
 }

@@ -230,18 +230,58 @@ fn help_groups_the_commands(rt: HostRuntime) {
 }
 
 /// Lines that ask for help of a command over a region or zones, and what it says of the file.
-static FILE_HELP: [(&str, &str); 5] = [
+static FILE_HELP: [(&str, &str); 15] = [
     (
         "h3 intersectCells --help",
-        "region: line 2: error 5: E_CELL_INVALID",
+        "\n  region: line 2: error 5: E_CELL_INVALID  its first faulty line, status 1\n",
     ),
-    ("h3 subtractCells --help", "region: open, status 3"),
+    ("h3 subtractCells --help", "\n  region: open  "),
     ("h3 areCoveredCells --help", "--region <region>"),
     (
-        "h3 cellsToZones --help",
-        "zones: error 10: E_DUPLICATE_INPUT",
+        "h3 areCoveredCells --help",
+        "\n  region: column: not found  ",
     ),
-    ("h3 countCellsInZones --help", "zones: open, status 3"),
+    (
+        "h3 intersectCells --help",
+        "\n  region: column: not found  ",
+    ),
+    (
+        "h3 intersectCells --help",
+        "\nOf a region in a CSV file:\nh3 intersectCells --region region.csv --region-column cell --csv < cells\n",
+    ),
+    (
+        "h3 subtractCells --help",
+        "\nh3 subtractCells --region region.csv --region-column cell --csv < cells\n",
+    ),
+    (
+        "h3 areCoveredCells --help",
+        "\nh3 areCoveredCells --region region.csv --region-column cell --csv < cells\n",
+    ),
+    (
+        "h3 cellsToZones --help",
+        "\n  zones: error 10: E_DUPLICATE_INPUT      overlapping zones, status 1\n",
+    ),
+    ("h3 countCellsInZones --help", "\n  zones: open  "),
+    (
+        "h3 cellsToZones --help",
+        "\n  zones: column: not found                its header lacks the column, status 3\n",
+    ),
+    (
+        "h3 countCellsInZones --help",
+        "\n  zones: column: not found  ",
+    ),
+    (
+        "h3 cellsToZones --help",
+        "\nOf zones in a CSV file:\nh3 cellsToZones --zones zones.csv --zone-column cell --csv < cells\n",
+    ),
+    (
+        "h3 countCellsInZones --help",
+        "\nh3 countCellsInZones --zones zones.csv --zone-column cell --csv < cells\n",
+    ),
+    (
+        "h3 countCellsInZones --help",
+        "\nWith --zone-column the file is a table with a header, with --zone-field one\nwithout.",
+    ),
 ];
 
 /// Whether a line asks for help that has a text, in lines of at most 80 bytes.
@@ -394,7 +434,7 @@ static ROWS_HELP: [(&str, &str); 31] = [
     ),
     (
         "h3 gridDisksUnsafe --help",
-        "\nThe table cannot be the pipe of the list.\n",
+        "\nA walk that meets an error prints none of its cells.\n",
     ),
     ("h3 getResolutions --help", "\nRows:\n"),
     ("h3 areCoveredCells --help", "--keep-going "),
@@ -433,23 +473,62 @@ fn help_says_how_a_list_is_given(rt: HostRuntime) {
     }
 }
 
-/// Lines that ask for help of a command that tells an error of a list with its line.
-static LINE_HELP: [&str; 9] = [
-    "h3 uniteCells --help",
-    "h3 areValidDirectedEdges --help",
-    "h3 cellsToParents --help",
-    "h3 originsToDirectedEdges --help",
-    "h3 cellsToChildren --help",
-    "h3 gridDisksUnsafe --help",
-    "h3 gridDisksDistancesUnsafe --help",
-    "h3 gridRingsUnsafe --help",
-    "h3 getDirectedEdgeDestinations --help",
+/// What the help of the program says of all commands, and that of two about errors of their lists.
+static SHARED: [(&str, &str); 8] = [
+    (
+        "h3 --help",
+        "\n  error 13: E_MEMORY_ALLOC         out of memory",
+    ),
+    (
+        "h3 --help",
+        "\n  line 2: error 5: E_CELL_INVALID  the first faulty line of a list; status 1\n",
+    ),
+    (
+        "h3 --help",
+        "\n  table: form 1                    the file of --table is not a table; status 3\n",
+    ),
+    (
+        "h3 --help",
+        "\n  table: open                      it cannot be opened; status 3\n",
+    ),
+    (
+        "h3 --help",
+        "\n  fault: read                      a read failed; status 4\n",
+    ),
+    (
+        "h3 --help",
+        "\nA - for a file means a file of that name. No file can be the pipe of the list.\n",
+    ),
+    (
+        "h3 compactCells --help",
+        "\nAn error is reported without a line; with --field 1, error 1 or 5 has its line.\n",
+    ),
+    (
+        "h3 uncompactCells --help",
+        "\nAn error is reported without a line; with --field 1, error 1 or 5 has its line.\n",
+    ),
 ];
 
 #[test]
-fn help_says_that_an_error_of_a_list_is_told_with_its_line(rt: HostRuntime) {
-    let said = "as line 2: error 1: E_FAILED.\n";
-    for line in &LINE_HELP {
-        expect(&rt, line, help_says(rt.alloc(), line, said));
+fn help_says_what_all_commands_share(rt: HostRuntime) {
+    let row = first_unsaid(rt.alloc(), &SHARED);
+    expect_all(&rt, row, SHARED.len());
+}
+
+/// Whether the help of a command is narrow, and leaves to that of the program what all commands share.
+fn own_help_is_short(alloc: Global, word: &str) -> bool {
+    match format!(in alloc; "h3 {word} --help") {
+        Ok(line) => {
+            let text = help_of(alloc, line.as_str());
+            is_narrow(text.as_str()) && !text.contains("out of memory")
+        }
+        Err(_) => false,
+    }
+}
+
+#[test]
+fn help_of_each_command_is_short(rt: HostRuntime) {
+    for word in &COMMAND_WORDS {
+        expect(&rt, word, own_help_is_short(rt.alloc(), word));
     }
 }

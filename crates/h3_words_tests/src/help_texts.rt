@@ -84,7 +84,7 @@ static ABOUT: [(&str, &str, &str); 51] = [
     (
         "compactCells",
         "Compact a list of cells",
-        "Compact the list of cells on standard input, of any resolutions; overlapping cells are error 10",
+        "Compact the list of cells on standard input, of any resolutions",
     ),
     (
         "uncompactCells",
@@ -229,7 +229,7 @@ static ABOUT: [(&str, &str, &str); 51] = [
     (
         "cellsToChildPositions",
         "The position of each cell below an ancestor",
-        "The position of each cell listed on standard input among the descendants of its ancestor at a resolution",
+        "The position below its ancestor at a resolution of each cell on standard input",
     ),
     (
         "gridDisksUnsafe",
@@ -309,7 +309,7 @@ fn help_says_what_each_command_answers(rt: HostRuntime) {
 }
 
 /// Commands, the forms of their options, and what each is.
-static OPTION_TEXTS: [(&str, &str, &str); 22] = [
+static OPTION_TEXTS: [(&str, &str, &str); 26] = [
     (
         "h3 getResolution -h",
         "-c, --cell <cell>",
@@ -369,6 +369,26 @@ static OPTION_TEXTS: [(&str, &str, &str); 22] = [
         "h3 countCellsInZones -h",
         "--zones <zones>",
         "The zones: a file of one cell a line, or a table",
+    ),
+    (
+        "h3 intersectCells -h",
+        "--region-column <region-column>",
+        "File with a header: its column of cells",
+    ),
+    (
+        "h3 areCoveredCells -h",
+        "--region-field <region-field>",
+        "File of rows: number of its cell field",
+    ),
+    (
+        "h3 cellsToZones -h",
+        "--zone-column <zone-column>",
+        "File with a header: its column of cells",
+    ),
+    (
+        "h3 countCellsInZones -h",
+        "--zone-field <zone-field>",
+        "File of rows: number of its cell field",
     ),
     (
         "h3 gridDiskUnsafe -h",

@@ -576,7 +576,7 @@ fn refuses_unfit_values(rt: HostRuntime) {
 }
 
 /// Invalid lines, and what is said of each.
-static SAID: [(&str, &str); 20] = [
+static SAID: [(&str, &str); 24] = [
     (
         "h3 getResolutions --field -1",
         "invalid value '-1' for '--field <number>': -1 is not in 1..=65535",
@@ -653,6 +653,26 @@ static SAID: [(&str, &str); 20] = [
     (
         "h3 compactCells --column a --errors",
         "unexpected argument '--errors' found",
+    ),
+    (
+        "h3 cellsToZones --zones z --csv",
+        "error: the argument '--csv' cannot be used without '--field <number>', '--column <column>', \
+        '--zone-field <zone-field>' or '--zone-column <zone-column>'\n\n\
+        Usage: h3 cellsToZones --zones <zones> < cells\n",
+    ),
+    (
+        "h3 countCellsInZones --zones z --separator ,",
+        "error: the argument '--separator <separator>' cannot be used without '--field <number>', \
+        '--column <column>', '--zone-field <zone-field>' or '--zone-column <zone-column>'\n",
+    ),
+    (
+        "h3 subtractCells --region r --csv",
+        "error: the argument '--csv' cannot be used without '--field <number>', '--column <column>', \
+        '--region-field <region-field>' or '--region-column <region-column>'\n",
+    ),
+    (
+        "h3 compactCells --csv",
+        "error: the argument '--csv' cannot be used without '--field <number>' or '--column <column>'\n",
     ),
 ];
 

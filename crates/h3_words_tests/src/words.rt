@@ -3,6 +3,7 @@
 use crate::expected::{expect, expect_all};
 use h3_parses::read;
 use h3_requests::{Command, IndexFunction};
+use h3_words::reads_list;
 use std::alloc::Global;
 
 /// Whether a line asks for a command without a file.
@@ -55,6 +56,13 @@ fn reads_commands(rt: HostRuntime) {
         let command = Command::IsValidCell { cell: *cell };
         expect(&rt, line, asks_for(rt.alloc(), line, command));
     }
+}
+
+#[test]
+fn some_commands_read_a_list(rt: HostRuntime) {
+    expect(&rt, "compactCells", reads_list(Command::CompactCells));
+    let of_a_cell = Command::IsValidCell { cell: None };
+    expect(&rt, "isValidCell", !reads_list(of_a_cell));
 }
 
 /// Lines of commands on a cell, or on nothing.
