@@ -16,9 +16,10 @@
  * (an `int64_t *out` or the like: to one). It is never null, also if the length is 0. What a function writes to
  * overlaps nothing else that it is passed. If an array is too short for what is to be written, the error is
  * E_MEMORY_BOUNDS. No function keeps what it is passed. compactCells, uncompactCells, uniteCells, intersectCells,
- * subtractCells, zones, areas, findOverlap and readTable alone take memory, by malloc, and free it before they return:
- * E_MEMORY_ALLOC, or H3W_TABLE_MEMORY, if they get none. readTable uses up to 64 KiB of stack. For 512 cells or more,
- * cellsToZones, areCoveredCells and countCellsInZones use up to 18 KiB, and cellsToZonesPlaces up to 19 KiB.
+ * subtractCells, zones, areas, cellsToAreas, findOverlap and readTable alone take memory, by malloc, and free it before
+ * they return: E_MEMORY_ALLOC, or H3W_TABLE_MEMORY, if they get none. readTable uses up to 64 KiB of stack. For 512
+ * cells or more, cellsToZones, areCoveredCells and countCellsInZones use up to 18 KiB, and cellsToZonesPlaces up to
+ * 19 KiB.
  *
  * Threads. Each function may be called from any number of threads at once: the library has no variable that
  * changes. Two calls at once may read the same memory, and must not write to the same. Memory must stay as it is during
@@ -412,9 +413,10 @@ H3Error h3w_countCellsInZonesInTable(const H3Index *zones, size_t zoneCount, con
  * areas overlap. */
 
 /** Prepares the areas of n cells: puts the cells as zones into the first places of `zones`, in the order in which
- * others are looked up, and the number of each one's area at the same place of `numbers`. Cells that are below another
- * of the same area are left out. For zones each of which is an area of its own, pass 0, 1, 2, .. as `areas`: then
- * `numbers` has the place of each zone in `cells`. It takes 24 bytes of memory for each of the n cells.
+ * others are looked up, and the number of each one's area at the same place of `numbers`. Left out are a cell below
+ * another of the same area, and all but one of the same cells of an area. For zones each of which is an area of its
+ * own, pass 0, 1, 2, .. as `areas`: then `numbers` has the place of each zone in `cells`. It takes 24 bytes of memory
+ * for each of the n cells.
  * @param areas the number of the area that each cell is one of; any numbers
  * @param areaCount, room, numbersRoom the lengths of `areas`, `zones` and `numbers`
  * @param count receives how many zones there are, at most n
@@ -441,6 +443,27 @@ H3Error h3w_cellsToZonesPlacesByTable(const H3Index *zones, size_t zoneCount, co
 H3Error h3w_cellsToZonesPlacesInTable(const H3Index *zones, size_t zoneCount, const uint32_t *places, size_t placeCount,
                                       const H3Index *cells, size_t n, const uint32_t *table, size_t tableRoom,
                                       int64_t *out, size_t room, size_t *at);
+
+/* ---- Areas that may overlap: a cell may lie in any number of them. */
+
+/** Lists the areas in which each of n cells lies: those that have the cell or an ancestor of it, each once. They are in
+ * the order of the resolution of each area's coarsest such cell; if these are the same, by number. The areas of cell i
+ * are at numbers[starts[i]] to numbers[starts[i + 1] - 1], of which there may be none, and starts[n] is how many there
+ * are in all. It takes 28 bytes of memory for each cell of the areas, and puts them in order in each call.
+ * @param areaCells the cells of the areas, which may repeat and overlap, in any order
+ * @param areas the number of the area that each of these cells is one of; any numbers
+ * @param areaCount the length of `areas`
+ * @param starts receives n + 1 places, from 0 on
+ * @param startsRoom, room the lengths of `starts` and `numbers`
+ * @param at receives n; or the place of the first error
+ * @return E_SUCCESS; E_MEMORY_BOUNDS: `areaCount` is below areaCellCount, or `startsRoom` below n + 1; E_MEMORY_ALLOC:
+ * no memory; E_CELL_INVALID: an index in `areaCells` is not a valid cell; with these errors nothing is written, `*at`
+ * neither. E_MEMORY_BOUNDS: `room` is below starts[n]; as many numbers as fit are written, the starts up to INT64_MAX,
+ * and `*at` is the place of the first cell whose areas do not all fit; E_CELL_INVALID: an index in `cells` is not a
+ * valid cell; it lies in no area, and all that is asked of the others is written */
+H3Error h3w_cellsToAreas(const H3Index *areaCells, size_t areaCellCount, const uint32_t *areas, size_t areaCount,
+                         const H3Index *cells, size_t n, int64_t *starts, size_t startsRoom, uint32_t *numbers,
+                         size_t room, size_t *at);
 
 /* ---- Columns: one call for n indexes. They are named as the plural commands of h3.
  *

@@ -1,5 +1,12 @@
 /* Calls over memory that other threads write to. Any result will do, but the process must not end, and nothing outside
- * of the arrays may be read or written: each lies between two pages that end a process which touches them. */
+ * of the arrays may be read or written: each lies between two pages that end a process which touches them.
+ *
+ * The functions `over_..` call each function of the header but these, which are passed no array (tests/library/library
+ * compares both with the header):
+ *
+ * without an array: h3w_version h3w_isValidCell h3w_getResolution h3w_getBaseCellNumber h3w_isPentagon
+ * h3w_isResClassIII h3w_getNumCells h3w_cellToParent h3w_cellToCenterChild h3w_cellToLastChild h3w_cellToChildrenSize
+ * h3w_cellToChildPos h3w_childPosToCell h3w_isValidDirectedEdge h3w_getDirectedEdgeOrigin */
 #define _DEFAULT_SOURCE
 #define H3WHOLE_BARE_NAMES
 #include "h3whole.h"
@@ -15,6 +22,7 @@
 #define N       4096
 #define ROOM    (7 * (size_t)N)
 #define TEXT    16
+#define WRITTEN 17
 #define WRITERS 2
 #define SECONDS 8
 
@@ -24,9 +32,10 @@ static H3Index given[N], given_zones[N], *cells, *others, *zones, *out;
 static int64_t *sizes;
 static int *numbers;
 static uint32_t *table, *beside;
-static char given_file[FILE_ROOM], *file, *text;
+static char given_file[FILE_ROOM], *file, *text, *written;
 static size_t file_length;
-static H3wTable links;
+/* (this one never changes) */
+static H3wTable *links;
 static int is_over, holds = 1;
 
 /* Memory of whole pages between two that nothing may touch. */
@@ -58,7 +67,7 @@ static void fill(void) {
     h3w_zonesTable(zones, N, table, N);
     file_length = write_table(given_file, PLAIN, 1);
     memcpy(file, given_file, file_length);
-    links = h3w_readTable(file, file_length, &fault);
+    *links = h3w_readTable(file, file_length, &fault);
     CHECK(fault.code == H3W_TABLE_ACCEPTED);
 }
 
@@ -102,10 +111,12 @@ static void *write_all(void *own) {
         PUT(&zones[i], other(&state));
         PUT(&zones[i], given_zones[i]);
         PUT(&table[i], (uint32_t)next(&state));
+        PUT(&beside[i], (uint32_t)next(&state));
         PUT(&out[i], other(&state));
         PUT(&sizes[i], (int64_t)other(&state));
         PUT(&numbers[i], (int)next(&state));
         PUT(&text[i % TEXT], letters[next(&state) % (sizeof letters - 1)]);
+        PUT(&written[i % WRITTEN], letters[next(&state) % (sizeof letters - 1)]);
         PUT(&file[at], letters[next(&state) % (sizeof letters - 1)]);
         PUT(&file[at], given_file[at]);
     }
@@ -137,7 +148,7 @@ static void over_columns(void) {
     for (i = 0; i < 2; i++) ends(of_counts[i](cells, N, i ? 5 : 9, sizes, N, &at), N);
     ends(h3w_cellsToChildrenStarts(cells, N - 1, 9, sizes, N, &at), N - 1);
     ends(h3w_getDirectedEdgeOrigins(cells, N, out, ROOM, &at), N);
-    ends(h3w_gridDisksUnsafe(&links, cells, N, 1, out, ROOM, &at), N);
+    ends(h3w_gridDisksUnsafe(links, cells, N, 1, out, ROOM, &at), N);
 }
 
 static void over_lists(void) {
@@ -150,6 +161,7 @@ static void over_lists(void) {
     lists(h3w_uncompactCells(cells, N, out, ROOM, 9));
     lists(h3w_zones(cells, N, out, ROOM));
     lists(h3w_areas(cells, N, table, N, out, ROOM, beside, N, &count));
+    lists(h3w_cellsToAreas(others, N, table, N, cells, N - 1, sizes, N, beside, N, &at));
     lists(h3w_findOverlap(cells, N, &at, &earlier));
     lists(compactCells(cells, out, N));
     lists(uncompactCells(cells, N, out, ROOM, 9));
@@ -179,6 +191,28 @@ static void over_bytes(void) {
     H3Index index;
     h3w_readTable(file, file_length, &fault);
     holds = holds && fault.code < 10 && h3w_stringToH3(text, TEXT, &index) <= E_FAILED;
+    holds = holds && h3w_h3ToString(given[0], written, WRITTEN) == E_SUCCESS;
+}
+
+/* An error is one of H3's. */
+static void is_error(H3Error error) { holds = holds && error < 16; }
+
+/* The functions of one index that write to arrays, or read a table. */
+static void over_results(void) {
+    static size_t turn;
+    H3Index origin = given[turn++ % N], edge;
+    int are;
+    is_error(h3w_getRes0Cells(out, ROOM));
+    is_error(h3w_getPentagons(9, out, ROOM));
+    is_error(h3w_cellToChildren(origin, 12, out, ROOM));
+    is_error(h3w_originToDirectedEdges(origin, out));
+    is_error(h3w_gridDiskUnsafe(links, origin, 36, out, ROOM));
+    is_error(h3w_gridDiskDistancesUnsafe(links, origin, 36, out, ROOM, numbers, N));
+    is_error(h3w_gridRingUnsafe(links, origin, 400, out, ROOM));
+    is_error(h3w_areNeighborCells(links, origin, given[turn % N], &are));
+    is_error(h3w_cellsToDirectedEdge(links, origin, given[turn % N], &edge));
+    edge = (origin & ~(UINT64_C(15) << 59 | UINT64_C(7) << 56)) | UINT64_C(2) << 59 | (uint64_t)(turn % 8) << 56;
+    is_error(h3w_getDirectedEdgeDestination(links, edge, &origin));
 }
 
 int main(void) {
@@ -195,6 +229,8 @@ int main(void) {
     beside = (uint32_t *)guarded(N * sizeof *beside);
     file = (char *)guarded(FILE_ROOM);
     text = (char *)guarded(FILE_ROOM) + FILE_ROOM - TEXT;
+    written = (char *)guarded(FILE_ROOM) + FILE_ROOM - WRITTEN;
+    links = (H3wTable *)(void *)((char *)guarded(FILE_ROOM) + FILE_ROOM - sizeof *links);
     fill();
     for (i = 0; i < WRITERS; i++) CHECK(pthread_create(&writers[i], NULL, i ? write_all : write_cells, given + i) == 0);
     while (time(NULL) < end) {
@@ -202,6 +238,7 @@ int main(void) {
         over_lists();
         over_zones();
         over_bytes();
+        over_results();
     }
     PUT(&is_over, 1);
     for (i = 0; i < WRITERS; i++) CHECK(pthread_join(writers[i], NULL) == 0);

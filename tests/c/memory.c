@@ -75,6 +75,13 @@ static H3Error areas(size_t *count) {
     return h3w_areas(cells, 343, places, 343, out, 343, numbers, 343, count);
 }
 
+static H3Error overlapping(size_t *count) {
+    static uint32_t places[343], numbers[343];
+    size_t i;
+    for (i = 0; i < 343; i++) places[i] = (uint32_t)i;
+    return h3w_cellsToAreas(cells, 343, places, 343, cells, 342, (int64_t *)out, 343, numbers, 342, count);
+}
+
 /* no two overlap, so both places are the number of cells */
 static H3Error found(size_t *count) {
     size_t earlier = KEPT;
@@ -205,6 +212,7 @@ int main(void) {
     expect(subtracted, 60);
     expect(prepared, 343);
     expect(areas, 343);
+    expect(overlapping, 342);
     expect(found, 343);
     expect_lookups();
     expect_order();

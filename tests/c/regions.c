@@ -413,6 +413,89 @@ static void prepare_places(const List *list) {
     look_up_areas(list, places, zones, numbers, count);
 }
 
+/* ---- areas that may overlap */
+
+/* how many numbers they have at most, from 0 on; the last one is the greatest of all */
+#define AREAS 9
+
+static uint32_t number_of(size_t area) { return area == AREAS - 1 ? UINT32_MAX : (uint32_t)area; }
+
+/* The resolution of the coarsest cell of an area that is a cell or above it; 16 where there is none. */
+static int coarsest_of(const List *list, const uint32_t *areas, uint32_t number, H3Index cell) {
+    int res = 16;
+    size_t i;
+    for (i = 0; i < list->n; i++)
+        if (areas[i] == number && is_above(list->cells[i], cell) && resolution(list->cells[i]) < res)
+            res = resolution(list->cells[i]);
+    return res;
+}
+
+/* The areas of a cell: by that resolution, and then by number. */
+static size_t areas_of(const List *list, const uint32_t *areas, H3Index cell, uint32_t *found) {
+    size_t n = 0, area;
+    int res;
+    for (res = 0; res <= FINEST; res++)
+        for (area = 0; area < AREAS; area++)
+            if (coarsest_of(list, areas, number_of(area), cell) == res) found[n++] = number_of(area);
+    return n;
+}
+
+static int64_t starts[CELLS + 2];
+static uint32_t listed[CELLS * AREAS + 1];
+static H3Index asked[CELLS];
+
+/* The error of a call with room for so many numbers; nothing is written after those, and after n + 1 starts. */
+static H3Error list_areas(const List *list, const uint32_t *areas, size_t n, size_t room, size_t *at) {
+    H3Error error;
+    memset(starts, 77, sizeof starts), memset(listed, 78, sizeof listed), *at = 79;
+    error = h3w_cellsToAreas(list->cells, list->n, areas, list->n, asked, n, starts, n + 1, listed, room, at);
+    CHECK(starts[n + 1] == 0x4d4d4d4d4d4d4d4d && listed[room] == 0x4e4e4e4e);
+    return error;
+}
+
+/* Nothing is written where the areas are refused, or where there is too little room for them or for starts. */
+static void refuse_areas(const List *list, const uint32_t *areas) {
+    static List wrong;
+    size_t at = 79;
+    memset(starts, 77, sizeof starts), memset(listed, 78, sizeof listed);
+    CHECK(h3w_cellsToAreas(list->cells, list->n, areas, list->n, asked, 3, starts, 3, listed, 9, &at) ==
+          E_MEMORY_BOUNDS);
+    if (list->n) {
+        CHECK(h3w_cellsToAreas(list->cells, list->n, areas, list->n - 1, asked, 3, starts, 4, listed, 9, &at) ==
+              E_MEMORY_BOUNDS);
+        wrong = *list, wrong.cells[list->n - 1] = KEPT;
+        CHECK(h3w_cellsToAreas(wrong.cells, wrong.n, areas, wrong.n, asked, 3, starts, 4, listed, 9, &at) ==
+              E_CELL_INVALID);
+    }
+    CHECK(at == 79 && starts[0] == 0x4d4d4d4d4d4d4d4d && listed[0] == 0x4e4e4e4e);
+}
+
+/* The areas of all cells, in random order, into just enough room and into less, and where an index is no cell's. */
+static void overlapping_areas(const List *list, size_t names) {
+    static uint32_t areas[LIST], wanted[CELLS * AREAS];
+    static int64_t begins[CELLS + 1];
+    size_t i, at, all = 0, room, fits = 0;
+    for (i = 0; i < list->n; i++) areas[i] = number_of(AREAS - 1 - below(names));
+    for (i = 0; i < CELLS; i++) {
+        asked[i] = cells[below(CELLS)];
+        all += areas_of(list, areas, asked[i], wanted + all);
+        begins[i + 1] = (int64_t)all;
+    }
+    CHECK(list_areas(list, areas, CELLS, all, &at) == E_SUCCESS && at == CELLS);
+    CHECK(!memcmp(starts, begins, sizeof begins) && !memcmp(listed, wanted, all * sizeof *wanted));
+    room = all ? below(all) : 0;
+    while (fits < CELLS && begins[fits + 1] <= (int64_t)room) fits++;
+    CHECK(list_areas(list, areas, CELLS, room, &at) == (all ? E_MEMORY_BOUNDS : E_SUCCESS) && at == fits);
+    CHECK(!memcmp(starts, begins, sizeof begins) && !memcmp(listed, wanted, room * sizeof *wanted));
+    CHECK(list_areas(list, areas, 0, 0, &at) == E_SUCCESS && at == 0 && starts[0] == 0);
+    asked[1] = KEPT;
+    CHECK(list_areas(list, areas, 3, 3 * AREAS, &at) == E_CELL_INVALID && at == 1);
+    CHECK(starts[0] == 0 && starts[1] == begins[1] && starts[2] == begins[1]);
+    CHECK(starts[3] == begins[1] + begins[3] - begins[2]);
+    CHECK(!memcmp(listed + starts[2], wanted + begins[2], (size_t)(begins[3] - begins[2]) * sizeof *wanted));
+    refuse_areas(list, areas);
+}
+
 int main(void) {
     static List first, second, zones;
     int i;
@@ -425,6 +508,7 @@ int main(void) {
         find(&first);
         prepare_areas(&first, below(6) + 1);
         prepare_places(&first);
+        overlapping_areas(&first, below(AREAS) + 1);
         coarsest(&first, &zones);
         prepare(&zones);
         prepare_areas(&zones, below(6) + 1);

@@ -4,6 +4,7 @@ pub mod DescendantLaws
 pub mod DiskLaws
 pub mod Items
 pub mod Laid
+pub mod OverlappingLaws
 pub mod PlaceLaws
 pub mod SixPlaces
 pub mod StartLaws

@@ -18,7 +18,7 @@ use Rattle.h3_c.proofs.Laid.{indexes-full, indexes-snoc, laid_over-snoc}
 
 -- ---- sizes
 
-pub total : List ℕ → ℕ
+unfoldable pub total : List ℕ → ℕ
 total [] = 0
 total (n ∷ ns) = n + total ns
 
@@ -226,15 +226,15 @@ is_err-size h res = is_err-counted (cell_to_children h res) ∙ ap is_err (sym (
 
 -- ---- the lists stand where they begin
 
-take-front : {A : Type 0} (xs ys : List A) → take (length xs) (xs ++ ys) ≡ xs
+pub take-front : {A : Type 0} (xs ys : List A) → take (length xs) (xs ++ ys) ≡ xs
 take-front [] ys = refl
 take-front (x ∷ xs) ys = ap (λ l. x ∷ l) (take-front xs ys)
 
-drop-front : {A : Type 0} (xs ys : List A) → drop (length xs) (xs ++ ys) ≡ ys
+pub drop-front : {A : Type 0} (xs ys : List A) → drop (length xs) (xs ++ ys) ≡ ys
 drop-front [] ys = refl
 drop-front (x ∷ xs) ys = drop-front xs ys
 
-start-first : (place : ℕ) (ns : List ℕ) → slice_index (starts_from place ns) 0 ≡ place
+pub start-first : (place : ℕ) (ns : List ℕ) → slice_index (starts_from place ns) 0 ≡ place
 unfolding starts_from
 start-first place [] = refl
 start-first place (n ∷ ns) = refl

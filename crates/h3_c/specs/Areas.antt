@@ -27,23 +27,24 @@ beside (z ∷ zones) (n ∷ numbers) x = if is_ancestor z x then n else beside z
 abbrev pub cell_to_place : List Address → List ℕ → ℕ → Result ℕ H3Error
 cell_to_place zones places h = for_value (λ c. Ok (beside zones places c)) (cell_from h)
 
--- ---- of a column; where there is no number for each zone it is 14, and nothing is written
+-- ---- of a column; where there are fewer numbers than zones, or fewer slots than indexes, nothing is written
 
 -- the number beside the zone of each cell
 abbrev pub cells_to_places : List Address → List ℕ → List ℕ → List (Result ℕ H3Error)
 cells_to_places zones places hs = map (λ h. cell_to_place zones places h) hs
 
--- the code of a column: 14 where there are fewer numbers than zones
+-- 14 where there are fewer numbers than zones, or less room than indexes; else the number of the first error, or 0
 abbrev pub places_code : List Address → List ℕ → List ℕ → ℕ → ℕ
 places_code zones places hs room =
     if_room zones (length places) (column_code (cells_to_places zones places hs) room) 14
 
--- what is then in the caller's array
+-- the numbers beside the zones, and 2^64 - 1 in the place of errors, laid over what was there; or what was there, where
+-- `places_code` is 14
 abbrev pub places_over : List Address → List ℕ → List ℕ → List ℕ → List ℕ
 places_over zones places hs old =
     if_room zones (length places) (column_over (2 ^ 64 - 1) (cells_to_places zones places hs) old) old
 
--- and at the place of the first error
+-- the place of the first error, or how many indexes there are; or what was there, where `places_code` is 14
 abbrev pub places_place : List Address → List ℕ → List ℕ → ℕ → ℕ → ℕ
 places_place zones places hs room old =
     if_room zones (length places) (place_over (cells_to_places zones places hs) room old) old
@@ -58,9 +59,10 @@ areas_from hs numbers = for_cells (λ cells. unless (areas_refusal (zip cells nu
 abbrev pub areas_code : List ℕ → List ℕ → ℕ → ℕ
 areas_code hs numbers room = if nat_le (length hs) room then code_of (areas_from hs numbers) else 14
 
--- the areas of pairs were put as zones, with the number of the area beside each: without the pairs whose cells are
--- below another of the same area, so each cell lies in the same areas. What is found beside the zone of a cell is the
--- number of the area that it lies in, or -1
+-- the areas of pairs were put as zones, with the number of the area beside each: some of the pairs, of whose cells no
+-- two overlap, by which each cell lies in the same areas. So left out are a cell below another of the same area, and all
+-- but one of the same cells of an area. What is found beside the zone of a cell is the number of the area that it lies
+-- in, or -1
 pub record AreAreasPut (pairs : List (Address × ℕ)) (old new old_numbers new_numbers : List ℕ) (n : ℕ) : Type 0 where
   pub areas : List (Address × ℕ)
   pub chosen : AreChosen areas pairs

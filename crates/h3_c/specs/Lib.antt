@@ -7,6 +7,7 @@ pub mod Edges
 pub mod Functions
 pub mod Lists
 pub mod Outcome
+pub mod Overlapping
 pub mod Regions
 pub mod Sets
 pub mod StartExamples

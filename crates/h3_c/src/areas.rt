@@ -23,7 +23,11 @@ use h3_set::laws::coverages_decide_lists;
 use std::alloc::Global;
 
 /// Pairs of a cell and the number at its place. `MemoryAlloc` if there is no memory.
-fn pairs_of(alloc: Global, cells: &[Cell], areas: &[u32]) -> Result<Vec<(Cell, u32)>, H3Error>
+pub(crate) fn pairs_of(
+    alloc: Global,
+    cells: &[Cell],
+    areas: &[u32],
+) -> Result<Vec<(Cell, u32)>, H3Error>
     requires { length cells.now ≤ length areas.now }
     ensures pairs { IfOk result (λ pairs. pairs.items ≡ zip cells.now areas.now) }
     ensures refused { IfErr result (λ e. e ≡ MemoryAlloc) }
@@ -79,8 +83,8 @@ fn put_areas(
     }
 }
 
-/// Prepares areas of which no two overlap: puts the cells that are below no other of the same area
-/// as zones into the first slots, and the number of the area of each.
+/// Prepares areas of which no two overlap: puts the cells that are below no other of the same area,
+/// each once, as zones into the first slots, and the number of the area of each.
 #[unsafe(no_mangle)]
 pub extern "C" fn h3w_areas(
     alloc: Global,
@@ -157,7 +161,7 @@ impl<'a> Question<u64> for PlacesOf<'a> {
     }
 }
 
-/// The numbers beside the zones of indexes, if there is a number for each zone.
+/// The numbers beside the zones of indexes, if there are at least as many numbers as zones.
 #[inline(always)]
 fn fill_places(zones: Lookup, places: &[u32], cells: &[u64], out: &mut [u64], at: &mut usize) -> u32
     ensures code { result ≡ places_code (zones_in zones.entry) places.now cells.now (length out.old) }

@@ -12,6 +12,7 @@ mod hierarchy;
 mod inspection;
 mod lists;
 mod outcome;
+mod overlapping;
 mod regions;
 mod resolutions;
 mod sets;

@@ -386,7 +386,7 @@ pub extern "C" fn h3w_areCoveredCellsInTable(
 
 /// Looks for the first index that is no cell's. Returns the number of its error, and puts its place
 /// at `at`; where there is none, 0 and how many indexes there are.
-fn judge(indexes: &[u64], at: &mut usize) -> u32
+pub(crate) fn judge(indexes: &[u64], at: &mut usize) -> u32
     ensures code { result ≡ first_code (judged indexes.now) }
     ensures place { at.new ≡ first_place (judged indexes.now) }
     ensures cells { result ≡ 0 → cells_in indexes.now ≢ None }

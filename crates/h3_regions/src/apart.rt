@@ -19,7 +19,8 @@ use h3_tree::post_order_key;
 use std::marker::Model;
 
 /// Moves the pairs with the outermost cells to the end, in order: those whose cells are below no
-/// other of the same area. Returns the place of the first one, or `None` if two areas overlap.
+/// other of the same area, each cell once. Returns the place of the first one, or `None` if two areas
+/// overlap.
 fn keep_outermost(pairs: &mut [(Cell, u32)]) -> Option<usize>
     requires valid { All (λ p. IsCell p.0) pairs.old }
     requires in_order { AllPairs (λ p q. post_order_key p.0 ≤ post_order_key q.0) pairs.old }
@@ -50,8 +51,8 @@ fn keep_outermost(pairs: &mut [(Cell, u32)]) -> Option<usize>
 }
 
 /// Orders pairs so that an area can be looked up: the pairs from the place on that is returned say in
-/// which area a cell lies, each with a cell of its area that is below no other. The pairs stay the
-/// same, in some order, also after an error.
+/// which area a cell lies, each with a cell of its area that is below no other, each cell once. The
+/// pairs stay the same, in some order, also after an error.
 ///
 /// # Errors
 ///
@@ -84,7 +85,7 @@ pub struct RefusedAreas<'a> {
 /// Areas by number, of which no two overlap, in caller-provided memory. The area that a cell lies in
 /// is found as the zone of a cell is, by [`Zones`](crate::Zones): in as many steps as the number of
 /// cells has bits, or one more. Contracts see the list of pairs of a cell and an area's number that
-/// are left when cells below others of the same area are dropped.
+/// are left when cells below others of the same area are dropped, and all but one of the same cells.
 #[derive(Debug, Drop)]
 pub struct ApartAreas<'a> {
     pairs: &'a [(Cell, u32)],
@@ -170,7 +171,7 @@ impl<'a> ApartAreas<'a> {
     }
 
     /// Returns the pairs by which areas are looked up, in post order: those whose cells are below no
-    /// other cell of the same area.
+    /// other cell of the same area, each cell once.
     pub fn pairs(&self) -> &'a [(Cell, u32)]
         ensures { result.now ≡ self.now }
     {
