@@ -12,6 +12,7 @@ from . import _fast
 from . import columns as _columns
 from . import errors as _errors
 from . import int as _integers
+from ._areas import CellAreas
 from ._arguments import indexes_of as _indexes_of
 from .errors import *  # noqa: F401,F403 (the exceptions are part of this module)
 from .errors import H3FailedError
@@ -22,6 +23,7 @@ from .table import Table, TableError, over_table, use_table
 __version__ = "1.3.0"
 __all__ = [
     *_errors.__all__,
+    "Areas",
     "Counts",
     "Region",
     "Table",
@@ -789,6 +791,41 @@ class Zones(_Texts, CellZones[str]):
     """
 
     __slots__ = ()
+
+
+class Areas(CellAreas[str]):
+    """Areas that may overlap, over texts: cells with names, by which other cells are joined and counted.
+
+    Parameters
+    ----------
+    cells : iterable of str, column, region or zones
+        The cells, of any resolutions, which may repeat and overlap.
+    names : iterable
+        A name for each cell. Many cells may have one name, and are an area.
+
+    Raises
+    ------
+    H3FailedError
+        If a text does not parse as an index.
+    H3MemoryAllocError
+        If there is no memory for the areas.
+    H3CellInvalidError
+        If one is not a valid cell.
+    ValueError
+        If there are not as many names as cells, or a name is None or NaN.
+
+    Examples
+    --------
+    >>> areas = Areas(["85283473fffffff", "8428347ffffffff"], names=["north", "all"])
+    >>> areas.names_of(["862834707ffffff", "85283477fffffff", "8009fffffffffff"])
+    [['all', 'north'], ['all'], []]
+    >>> counts = areas.count(["862834707ffffff", "85283477fffffff", "8009fffffffffff"])
+    >>> counts["north"], counts["all"], counts.others
+    (1, 2, 1)
+    """
+
+    __slots__ = ()
+    _form = _Texts
 
 
 _fast.replace(globals(), over_texts=True)

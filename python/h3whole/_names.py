@@ -8,7 +8,7 @@ from typing import AbstractSet, Any, Dict, Iterator, List, Mapping, Sequence, Tu
 
 from ._arguments import whole_number
 
-__all__ = ["Totals", "names_in", "numbered", "summed", "weights_in"]
+__all__ = ["Totals", "names_in", "numbered", "ones", "summed", "weights_in"]
 
 _Key = TypeVar("_Key")
 
@@ -103,6 +103,12 @@ def weights_in(weights: Any, count: int) -> Any:
     return _of_one_kind([_weight(weight, place) for place, weight in enumerate(found)])
 
 
+def ones(count: int) -> Any:
+    """A weight of 1 for each of so many cells, by which they are counted."""
+    numpy = sys.modules.get("numpy")
+    return [1] * count if numpy is None else numpy.ones(count, dtype="int64")
+
+
 # how many halves of integers are added up as floats, which have 53 bits, and how many such sums as 64-bit integers
 _EXACT_IN_FLOATS = 2**20
 _EXACT_IN_INTEGERS = 2**30
@@ -142,8 +148,8 @@ def _added(first: Any, second: Any) -> Any:
 
 
 class Totals(Mapping[_Key, Any]):
-    """The number of cells with each name, or the sum of their weights by name or by zone: a mapping, as
-    `CellZones.count` returns it for zones with names, or with weights.
+    """The number of cells with each name or ancestor, or the sum of their weights by name, zone or ancestor: a mapping,
+    as `CellZones.count` returns it for zones with names or with weights, `CellAreas.count` and `columns.count_parents`.
 
     Attributes
     ----------
@@ -154,9 +160,9 @@ class Totals(Mapping[_Key, Any]):
 
     Notes
     -----
-    All values, `others` and `refused` add up to those of all cells. Names are in the order in which they were first
-    given, zones ascending. Sums are exact: fractions if one of the weights is a Fraction, else decimals if one is a
-    Decimal, else integers of any length.
+    All values, `others` and `refused` add up to those of all cells; in areas that overlap a cell counts more than once.
+    Names are in the order in which they were first given, zones and ancestors ascending. Sums are exact: fractions if
+    one of the weights is a Fraction, else decimals if one is a Decimal, else integers of any length.
 
     `a + b` adds up: the totals of the parts of a column make those of the whole. A ValueError says that the names or
     zones are not the same.

@@ -30,6 +30,7 @@ from ._library import _array, _index, _resolution, _size
 from ._memory import View, numpy_room
 from ._memory import room as _room
 from ._memory import room_at
+from ._names import Totals, ones, summed, weights_in
 from ._overlap import overlap_named
 from .errors import H3BaseException, H3CellInvalidError, error_of
 from .table import Table
@@ -47,6 +48,7 @@ __all__ = [
     "cells_to_last_children",
     "cells_to_parents",
     "compact_cells",
+    "count_parents",
     "get_base_cell_numbers",
     "get_directed_edge_origins",
     "get_resolutions",
@@ -834,6 +836,88 @@ def _sum(sizes: Any) -> int:
         return sum(sizes)
     numbers = numpy.frombuffer(sizes, dtype="int64")
     return sum(int(numbers[start : start + 2**20].sum()) for start in range(0, len(numbers), 2**20))
+
+
+# ---- counts
+
+
+def _indexes_of_form(column: Any, missing: bool) -> Tuple["array[int]", bool]:
+    """The indexes of a column, and whether they are given as texts."""
+    integers = array("q")
+    if _is_arrow(column):
+        given, numbers = _arrow_numbers(column, missing)
+        # (a null is 0, which is not a valid cell)
+        column, are_texts = memoryview(numbers.filled(0)), given.is_of_texts
+    elif _is_listed(column):
+        are_texts = not _is_pandas_index(column) or _is_listed(column.to_series())
+        column, integers = _numbers_of(column, missing)
+    else:
+        are_texts = False
+    with _Memory(column) as memory:
+        indexes = memory.copied()
+    places = set(integers)
+    if places and any(index and place not in places for place, index in enumerate(indexes)):
+        raise TypeError("a list is of texts or of integers, and not of both")
+    return indexes, are_texts and not places
+
+
+def _grouped(parents: "array[int]") -> Tuple["array[int]", Any]:
+    """The ancestors of cells, each once, ascending, and of each cell the place of its own among these; for 0, in the
+    place of an ancestor, how many there are."""
+    numpy = sys.modules.get("numpy")
+    if numpy is None or not parents:
+        found = array("Q", sorted(set(parents).difference([0])))
+        places = {parent: place for place, parent in enumerate(found)}
+        return found, [places.get(parent, len(found)) for parent in parents]
+    known, groups = numpy.unique(numpy.frombuffer(parents, dtype="uint64"), return_inverse=True)
+    if known[0] == 0:
+        known, groups = known[1:], numpy.where(groups > 0, groups - 1, len(known) - 1)
+    return array("Q", known.tobytes()), groups
+
+
+def count_parents(column: Any, res: SupportsIndex, weights: Any = None, *, missing: bool = False) -> "Totals[Any]":
+    """Count the cells by their ancestors at a resolution; or add up their weights.
+
+    Parameters
+    ----------
+    column : array, memoryview, numpy array, Series, Index or list
+        The cells.
+    res : int
+        A resolution, which is judged first.
+    weights : iterable or column, optional
+        A number for each cell: integers, also of numpy, `Decimal` or `Fraction`. They are added up exactly, so floats
+        are refused.
+    missing : bool, optional
+        Count what is refused by itself, as `Totals.refused`, and raise nothing for it.
+
+    Returns
+    -------
+    Totals
+        The number of cells with each ancestor, ascending, or the sum of their weights. The ancestors are texts if the
+        cells are, else integers. `others` is 0.
+
+    Raises
+    ------
+    H3ResDomainError
+        If the resolution is not 0 to 15.
+    H3FailedError
+        If a text does not parse as an index.
+    H3CellInvalidError
+        If one is not a valid cell. A null in a column in Arrow's memory is not one.
+    H3ResMismatchError
+        If the resolution is finer than a cell's.
+    TypeError
+        If a weight is a float, or not a number, or a list has texts and integers.
+    ValueError
+        If there are not as many weights as cells.
+    """
+    cells_to_parents(array("Q"), res)
+    indexes, are_texts = _indexes_of_form(column, missing)
+    parents = cells_to_parents(indexes, res, missing=missing)
+    exact = ones(len(parents)) if weights is None else weights_in(weights, len(parents))
+    found, groups = _grouped(parents)
+    *sums, refused = summed(exact, groups, len(found) + 1)
+    return Totals(int_to_str(found) if are_texts else found.tolist(), sums, type(refused)(0), refused)
 
 
 # ---- lists of all cells as one column, and the place where those of each begin

@@ -9,6 +9,7 @@ from array import array
 from typing import Any, Callable, Iterable, List, Optional, SupportsIndex, Tuple, overload
 
 from . import _fast, _library
+from ._areas import CellAreas
 from ._arguments import MOST, as_cell, as_edge, as_int, as_int64, as_text, indexes_of, whole_number
 from ._library import _array, _index, _number, _resolution, _size, _table, _truth
 from ._memory import or_refused
@@ -20,6 +21,7 @@ from .regions import CellRegion, CellSet, CellZones
 from .table import Table, over_table
 
 __all__ = [
+    "Areas",
     "Region",
     "Zones",
     "are_neighbor_cells",
@@ -998,6 +1000,41 @@ class Zones(_Numbers, CellZones[int]):
     """
 
     __slots__ = ()
+
+
+class Areas(CellAreas[int]):
+    """Areas that may overlap, over integers: cells with names, by which other cells are joined and counted.
+
+    Parameters
+    ----------
+    cells : iterable of int, column, region or zones
+        The cells, of any resolutions, which may repeat and overlap.
+    names : iterable
+        A name for each cell. Many cells may have one name, and are an area.
+
+    Raises
+    ------
+    H3FailedError
+        If a text of a column does not parse as an index.
+    H3MemoryAllocError
+        If there is no memory for the areas.
+    H3CellInvalidError
+        If one is not a valid cell.
+    ValueError
+        If there are not as many names as cells, or a name is None or NaN.
+
+    Examples
+    --------
+    >>> areas = Areas([0x85283473FFFFFFF, 0x8428347FFFFFFFF], names=["north", "all"])
+    >>> areas.names_of([0x862834707FFFFFF, 0x85283477FFFFFFF, 0x8009FFFFFFFFFFF])
+    [['all', 'north'], ['all'], []]
+    >>> counts = areas.count([0x862834707FFFFFF, 0x85283477FFFFFFF, 0x8009FFFFFFFFFFF])
+    >>> counts["north"], counts["all"], counts.others
+    (1, 2, 1)
+    """
+
+    __slots__ = ()
+    _form = _Numbers
 
 
 _fast.replace(globals(), over_texts=False)

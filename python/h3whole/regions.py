@@ -667,7 +667,7 @@ class CellZones(CellSet[_Cell]):
         The cells, of any resolutions; by default none.
     names : iterable, optional
         A name for each cell, of any type that a dict takes as a key. The cells with one name are an area. They may
-        repeat, and overlap: those below others of the same area are left out.
+        repeat, and overlap: those below others of the same area are left out, and each is there once.
 
     Raises
     ------
