@@ -5,6 +5,7 @@ import faulthandler
 import os
 import shutil
 import signal
+import subprocess
 import sys
 
 # a shell has what it runs in the background ignore an interrupt, and so would what is tried here
@@ -48,6 +49,16 @@ def has(name, *commands):
             skip(name, f"there is no {command}; .ci/packages --install")
             return False
     return True
+
+
+def shared_library(folder, source):
+    """A library to load into a program, compiled of a source in C by cc, or by the toolchain's own compiler and linker
+    where there is none."""
+    toolchain = os.path.join(os.path.dirname(os.path.realpath(shutil.which("rt") or "")), "../toolchain/bin/clang")
+    compiler = [shutil.which("cc")] if shutil.which("cc") else [toolchain, "-fuse-ld=lld"]
+    library = os.path.join(folder, os.path.basename(source).replace(".c", ".so"))
+    subprocess.run([*compiler, "-shared", "-fPIC", "-O1", "-nostdlib", "-o", library, source], check=True)
+    return library
 
 
 def finish():
