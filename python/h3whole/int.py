@@ -837,9 +837,11 @@ def get_directed_edge_destination(table, edge):  # type: ignore[no-untyped-def]
 
 
 def _first_of_no_cell(column: "array[int]", at: int, count: int) -> str:
-    """The first index that is not a valid cell, and its place."""
+    """The first index that is not a valid cell, and its place. There is none if the column has changed since."""
     found, place = _room("i", count), _size()
     _are_valid_cells(at, count, found.buffer_info()[0], count, ctypes.byref(place))
+    if 0 not in found:
+        return f"among {count} cells"
     first = found.index(0)
     return f"{column[first]:x} at place {first}"
 

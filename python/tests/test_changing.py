@@ -21,6 +21,8 @@ CELL = 0x85283473FFFFFFF
 SECONDS = 0.2
 CHILDREN = integers.cell_to_children(CELL, 6)
 REGION, FEW = integers.Region(CHILDREN[:3]), integers.Zones(CHILDREN[:3])
+NAMED = integers.Zones(CHILDREN[:3], names=list("aba"))
+AREAS = integers.Areas([CELL, *CHILDREN[:3]], list("abca"))
 MANY = integers.Zones(integers.cell_to_children(CELL, 10)[::2])
 
 CALLS = [
@@ -36,6 +38,8 @@ CALLS = [
     columns.to_arrow,
     integers.Region,
     integers.Zones,
+    integers.compact_cells,
+    lambda cells: integers.uncompact_cells(cells, 11),
     lambda cells: columns.cells_to_parents(cells, 4),
     lambda cells: columns.cells_to_center_children(cells, 11),
     lambda cells: columns.cells_to_last_children(cells, 11),
@@ -53,6 +57,12 @@ CALLS = [
     lambda cells: MANY.of(cells),
     lambda cells: MANY.count(cells),
     lambda cells: MANY.count(cells, missing=True),
+    lambda cells: NAMED.names_of(cells),
+    lambda cells: NAMED.count(cells),
+    lambda cells: AREAS.names_of(cells),
+    lambda cells: AREAS.places_of(cells),
+    lambda cells: AREAS.count(cells),
+    lambda cells: columns.count_parents(cells, 4),
 ]
 
 
