@@ -36,7 +36,7 @@ abbrev pub AreasStandAtStarts : Type 0
 AreasStandAtStarts =
     (areas : List (Address × ℕ)) (hs : List ℕ) (i : ℕ) → i < length hs
     → slice_range (all_areas areas hs)
-        (slice_index (area_starts areas hs) i) (slice_index (area_starts areas hs) (i + 1))
+    (slice_index (area_starts areas hs) i) (slice_index (area_starts areas hs) (i + 1))
     ≡ cell_to_areas areas (slice_index hs i)
 
 -- ---- what is written of the areas in which the cell at each place has the number at that place
