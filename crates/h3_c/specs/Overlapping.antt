@@ -47,12 +47,12 @@ abbrev pub if_slots : {A : Type 0} → List ℕ → List ℕ → List ℕ → �
 if_slots given numbers hs room comes stands =
     if nat_le (length given) (length numbers) then (if nat_lt (length hs) room then comes else stands) else stands
 
--- if_areas given numbers comes stands: what comes of the areas, or what stands where an index given is no cell's
+-- if_areas given numbers comes stands: what comes of the areas, or what stands where a given index is not a valid cell
 abbrev pub if_areas : {A : Type 0} → List ℕ → List ℕ → (List (Address × ℕ) → A) → A → A
 if_areas given numbers comes stands = option_map_or (λ cells. comes (zip cells numbers)) (cells_in given) stands
 
--- cells_to_areas_code given numbers hs starts room: 14 where there are too few slots, or 5 where an index given is no
--- cell's; else 14 where there is too little room for all areas, or the number of the first error, or 0
+-- cells_to_areas_code given numbers hs starts room: 14 where there are too few slots, or 5 where a given index is not a
+-- valid cell; else 14 where there is too little room for all areas, or the number of the first error, or 0
 abbrev pub cells_to_areas_code : List ℕ → List ℕ → List ℕ → ℕ → ℕ → ℕ
 cells_to_areas_code given numbers hs starts room =
     if_slots given numbers hs starts
