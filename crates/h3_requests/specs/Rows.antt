@@ -1,5 +1,6 @@
 -- What separates the fields of a row, and which of them has the cell.
-use Rattle.std.specs.Prelude.{ℕ, ◌==◌, nat_le, Bool, true, not, ◌&&◌, ◌||◌}
+use Rattle.std.specs.Prelude.{ℕ, ◌==◌, nat_le, Bool, true, not, ◌&&◌, ◌||◌, List}
+use Rattle.std.specs.List.{list_all}
 use Rattle.h3_requests.specs.declared.rows.CellField.{CellField}
 use Rattle.h3_requests.specs.declared.rows.CellField.TheVariants.{Number, Column}
 
@@ -18,3 +19,8 @@ is_separator b =
 abbrev pub is_counted : CellField → Bool
 is_counted (Number n) = not (n == 0)
 is_counted (Column name) = true
+
+-- is_plain_field separator bytes: the bytes are one field of rows, with quotes or without: no separator, quote, line feed or
+-- carriage return is among them
+abbrev pub is_plain_field : ℕ → List ℕ → Bool
+is_plain_field separator bytes = list_all (λ b. not ((b == separator) || (b == 34) || (b == 10) || (b == 13))) bytes

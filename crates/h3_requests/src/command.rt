@@ -2,7 +2,7 @@
 
 /// A function of one index: a command in the singular answers it for a word, one in the plural for
 /// each line of a list, and the library for C for an index or each of a column.
-#[derive(Clone, Copy, Debug, Eq, PartialEq)]
+#[derive(Clone, Copy, Eq, PartialEq)]
 pub enum IndexFunction {
     /// `isValidCell`
     IsValidCell,
@@ -47,7 +47,7 @@ pub enum IndexFunction {
 /// A command with what its words parse as: one variant a command, named as H3's functions are.
 ///
 /// An index is `None` where its word parses as none.
-#[derive(Clone, Copy, Debug, PartialEq, Eq)]
+#[derive(Clone, Copy, PartialEq, Eq)]
 pub enum Command {
     /// Whether an index is a valid cell.
     IsValidCell {

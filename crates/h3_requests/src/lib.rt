@@ -6,4 +6,4 @@ pub mod laws;
 mod rows;
 
 pub use command::{Command, IndexFunction};
-pub use rows::{CellField, RowOptions, Tables, is_separator};
+pub use rows::{AreaOptions, CellField, RowOptions, TableOptions, Tables, is_separator};

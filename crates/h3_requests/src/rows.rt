@@ -1,10 +1,10 @@
 //! How the rows of a list are read, and written with the answers to their cells.
 
-ghost use Rattle.std.specs.Prelude.{◌≡◌, true};
-ghost use Rattle.h3_requests.specs.Rows.{is_counted, is_separator};
+ghost use Rattle.std.specs.Prelude.{◌≡◌, true, string_bytes};
+ghost use Rattle.h3_requests.specs.Rows.{is_counted, is_plain_field, is_separator};
 
 /// Which field of a row has its cell.
-#[derive(Debug, Drop)]
+#[derive(Drop)]
 pub enum CellField {
     /// `--field`: the one with this number, counted from 1.
     Number(u16),
@@ -14,7 +14,7 @@ pub enum CellField {
 }
 
 /// How the rows of a list are read, and written with the answers to their cells.
-#[derive(Debug, Drop)]
+#[derive(Drop)]
 pub struct RowOptions {
     /// Which field of a row has its cell: `--field` or `--column`.
     pub field: CellField,
@@ -45,15 +45,43 @@ pub struct RowOptions {
     ghost separates: { is_separator separator ≡ true },
 }
 
+/// How a table is read in which one field has a cell, and another a name.
+#[derive(Drop)]
+pub struct TableOptions {
+    /// How its rows are read, and which field has the cells.
+    pub rows: RowOptions,
+
+    /// Which field has the names.
+    pub name: CellField,
+
+    ghost counted: { is_counted name ≡ true },
+}
+
+/// How the areas of a table are read, and written.
+#[derive(Drop)]
+pub struct AreaOptions {
+    /// How the table is read: `--zone-name` or `--zone-name-field` is its field of names.
+    pub table: TableOptions,
+
+    /// What is written for a cell in no area: `--none`.
+    pub none: String,
+
+    ghost plain: { is_plain_field table.rows.separator (string_bytes none) ≡ true },
+}
+
 /// How the tables of a command are read: its list, if that has rows, and its file of cells.
-#[derive(Debug, Drop)]
+#[derive(Drop)]
 pub struct Tables {
     /// How the rows of the list are read and written; `None` if the list is bare.
     pub list: Option<RowOptions>,
 
     /// How the rows of the file of a region or of zones are read, by the field, the header, the separator
-    /// and the quotes of these options; `None` if the file is bare.
+    /// and the quotes of these options; `None` if the file is bare, or its rows have names.
     pub file: Option<RowOptions>,
+
+    /// How the rows of the file of zones are read, if these have names. Only `CellsToZones` and
+    /// `CountCellsInZones` read it; other commands ignore it.
+    pub areas: Option<AreaOptions>,
 }
 
 /// Whether a byte may separate fields: one of ASCII that is not in an answer, and ends no row and
