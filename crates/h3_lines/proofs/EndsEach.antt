@@ -25,7 +25,7 @@ module _ {S V : Type 0} (taken : S → Option (List ℕ)) (failed : S → Bool) 
     (refuses : (v w : V) (ls : List Piece) (e : RunError) → refused v ls w e → RefusesLines (answer_of v) (number v) (held v) ls e (sink_use taken failed (out v) (out w)))
     (empty : (v : V) → settled v → held v ≡ []) where
   early : (v w : V) (old new : Option (List ℕ)) (had has : Bool) (e : RunError) → number v ≡ 1 → held v ≡ []
-      → ((e ≡ Fault Read) × StopsReading false 64 takes settled v w old new (has ≡ true) (2 ^ 40)) ⊎ (StopsTaking false (rows_of false) 64 takes refused settled v w e old new (2 ^ 40) 65536 × (has ≡ had))
+      → ((e ≡ Fault Read) × StopsReading false 64 takes settled v w old new (has ≡ true) (2 ^ 40) 65536) ⊎ (StopsTaking false (rows_of false) 64 takes refused settled v w e old new (2 ^ 40) 65536 × (has ≡ had))
       → EndsLinesEarly (answer_of v) old new has e (sink_use taken failed (out v) (out w))
   early v w old new had has e one none stops =
       ends_early false (rows_of false) 64 taken failed (λ v. lines_from (answer_of v)) tt (λ v n. refl) number held out takes refused settled answers (λ v w ls t. ap (λ a. lines_from a) (same v w ls t)) (λ v w ls e r. (refuses v w ls e r).1) empty
@@ -33,14 +33,14 @@ module _ {S V : Type 0} (taken : S → Option (List ℕ)) (failed : S → Bool) 
 
   -- how it ends, by what is known of the reading
   pub ends_each : (v w : V) (old new : Option (List ℕ)) (had has : Bool) (r : Result (Unit {0}) RunError) → number v ≡ 1 → held v ≡ [] → OnOk r (TakesAll (rows_of false) takes v w old new (2 ^ 40) 65536) → OnOk r (settled w) → OnOk r (has ≡ had)
-      → IfErr r (λ e. ((e ≡ Fault Read) × StopsReading false 64 takes settled v w old new (has ≡ true) (2 ^ 40)) ⊎ (StopsTaking false (rows_of false) 64 takes refused settled v w e old new (2 ^ 40) 65536 × (has ≡ had)))
+      → IfErr r (λ e. ((e ≡ Fault Read) × StopsReading false 64 takes settled v w old new (has ≡ true) (2 ^ 40) 65536) ⊎ (StopsTaking false (rows_of false) 64 takes refused settled v w e old new (2 ^ 40) 65536 × (has ≡ had)))
       → EndsEach (answer_of v) old new had has r (sink_use taken failed (out v) (out w))
   ends_each v w old new had has (Ok u) one none all settles sound stops = (
     sound,
     record {
       list = all.bytes;
       held = all.held;
-      told = all.told;
+      consumed = all.consumed;
       within = all.within;
       writes = subst (λ a. Writes a (Ok tt) (sink_use taken failed (out v) (out w))) (all_lines (answer_of v) (number v) one all.bytes)
           (begun_written taken failed (lines_from (answer_of v)) (answers v w _ all.takes) none (empty w settles) tt refl);

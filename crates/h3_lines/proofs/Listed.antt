@@ -67,7 +67,7 @@ known_faulty bytes (Fault Memory) refused other memory = absurd (memory refl)
 known_faulty bytes (Fault Read) refused other memory = absurd (other refl)
 known_faulty bytes (Fault Write) refused other memory = absurd (refused [])
 
--- a refusal that is told without the number of its line fits the list
+-- a refusal that is reported without the number of its line fits the list
 fits_unnumbered : (reads : Type 0) (list : Result (List Address) H3Error) (n : ℕ) (e : RunError) → RefusesAt reads list n e → RefusesList reads list (without_number e)
 fits_unnumbered reads list n (Error e) (error, is, at) = (error, is, ap without_line at)
 fits_unnumbered reads list n (Fault Memory) h = h
@@ -157,7 +157,7 @@ module _ {V : Type 0} (number : V → ℕ) (taken : V → List Address → V →
   -- how the taking of the lines stops that is not whole
   abbrev Stops : V → V → RunError → SourceUse → ℕ → ℕ → Type 0
   Stops v w e input reads page =
-      ((e ≡ Fault Read) × StopsReading false 64 Takes Settled v w input.left input.left_after (input.has_failed ≡ true) reads)
+      ((e ≡ Fault Read) × StopsReading false 64 Takes Settled v w input.left input.left_after (input.has_failed ≡ true) reads page)
       ⊎ (StopsTaking false (rows_of false) 64 Takes Refuses Settled v w e input.left input.left_after reads page × NoReadFails input)
 
   pub list_read : (v w : V) (input : SourceUse) (reads page : ℕ) → TakesAll (rows_of false) Takes v w input.left input.left_after reads page → NoReadFails input
@@ -170,15 +170,15 @@ module _ {V : Type 0} (number : V → ℕ) (taken : V → List Address → V →
       within = s.within;
       is = numbered_cells (faulty_from (number v) (lines_of s.bytes)) (listed_cells s.bytes) s.takes.0 (sym (rows_numbered (number v) s.bytes) ∙ have_all cells_from (number v) (number w) (rows_of false s.bytes) s.takes.0 s.takes.1 tt ∙ ap Ok (append-nil s.takes.0));
       sound = sound;
-      whole = λ list is. none_left input.left input.left_after s.bytes list s.held s.told is;
+      whole = λ list is. none_left input.left input.left_after s.bytes list s.held s.consumed is;
     },
     s.takes.2,
   )
 
   -- how far it is read where a read fails
-  stops_reading : (v w : V) (input : SourceUse) (reads most : ℕ) → StopsReading false 64 Takes Settled v w input.left input.left_after (input.has_failed ≡ true) reads → StopsWithin most input
-  stops_reading v w input reads most s list known =
-      let (left, known', split) = left_of input.left input.left_after s.part list s.told known in (
+  stops_reading : (v w : V) (input : SourceUse) (reads page most : ℕ) → StopsReading false 64 Takes Settled v w input.left input.left_after (input.has_failed ≡ true) reads page → StopsWithin most input
+  stops_reading v w input reads page most s list known =
+      let (left, known', split) = left_of input.left input.left_after s.part list s.consumed known in (
         left,
         known',
         record { before = s.part; last = []; split = split ∙ ap (λ l. l ++ left) (sym (append-nil s.part)); within = omega arith; good = no_fault_yet (number v) (number w) s.part s.ended s.last s.takes.0 s.takes.1 s.rows s.short },
@@ -187,7 +187,7 @@ module _ {V : Type 0} (number : V → ℕ) (taken : V → List Address → V →
   -- and where a line or memory is refused
   stops_taking : (v w : V) (e : RunError) (input : SourceUse) (reads page : ℕ) → StopsTaking false (rows_of false) 64 Takes Refuses Settled v w e input.left input.left_after reads page → StopsWithin page input
   stops_taking v w e input reads page s list known =
-      let (left, known', split) = left_of input.left input.left_after (s.part ++ s.last) list s.told known in
+      let (left, known', split) = left_of input.left input.left_after (s.part ++ s.last) list s.consumed known in
       (left, known', record { before = s.part; last = s.last; split = split; within = s.short; good = no_fault_yet (number v) (number s.mid) s.part s.ended s.unended s.takes.0 s.takes.1 s.rows s.begun })
 
   -- a list that is refused before the reads end can be read, or is known to be faulty
@@ -210,8 +210,8 @@ module _ {V : Type 0} (number : V → ℕ) (taken : V → List Address → V →
     refused = subst (λ r. RefusesByLine ((input.has_failed ≡ true) ⊎ (reads ≤ length (s.part ++ s.rest))) (s.part ++ s.rest) r) (sym is) s.why;
     within = λ other memory. absurd (other is);
     sound = λ other. absurd (other is);
-    stops = stops_reading v w input reads page s;
-    faults = λ read. stops_reading v w input reads 0 s;
+    stops = stops_reading v w input reads page page s;
+    faults = λ read. stops_reading v w input reads page 0 s;
   }
   list_refused v w e input reads page first (inr (s, kept)) =
       let list = s.part ++ s.last ++ s.rest in

@@ -105,14 +105,14 @@ module _ {V : Type 0} (qs : Bool) (taken : V → List Piece → V → Type 0) (r
 -- is begun.
 pub record Took {V : Type 0} (qs : Bool) (taken : V → List Piece → V → Type 0) (v w : V) (line : List ℕ) (old now : Option (List ℕ)) (limit reads size : ℕ) : Type 0 where
   pub bytes : List ℕ
-  pub told : Consumes old now bytes
+  pub consumed : Consumes old now bytes
   pub goes : Goes qs taken v [] bytes w line []
   pub counted : limit ≤ reads + length bytes
   pub short : length bytes + reads * size ≤ limit * size
 
 module _ {V : Type 0} (qs : Bool) (taken : V → List Piece → V → Type 0) where
   pub took_none : (v : V) (now : Option (List ℕ)) (limit size : ℕ) → taken v [] v → Took qs taken v v [] now now limit limit size
-  took_none v now limit size start = record { bytes = []; told = Consumes-nil now; goes = goes_none qs taken [] start; counted = omega arith; short = omega arith }
+  took_none v now limit size start = record { bytes = []; consumed = Consumes-nil now; goes = goes_none qs taken [] start; counted = omega arith; short = omega arith }
 
   pub took_more : ((u v w : V) (xs ys : List Piece) → taken u xs v → taken v ys w → taken u (xs ++ ys) w) → {v w : V} {line : List ℕ} {old now : Option (List ℕ)} {limit reads size : ℕ} → Took qs taken v w line old now limit reads size
       → (now' : Option (List ℕ)) (reads' : ℕ) (page : List ℕ) (n : ℕ) (w' : V) (line' : List ℕ) → Pulls now now' page n → 0 < n → n ≤ length page → length page ≡ size → reads' + 1 ≡ reads
@@ -125,7 +125,7 @@ module _ {V : Type 0} (qs : Bool) (taken : V → List Piece → V → Type 0) wh
       let less : reads * size ≡ reads' * size + size = one_less reads reads' size count in
       record {
         bytes = t.bytes ++ take n page;
-        told = Consumes-trans old now now' t.bytes (take n page) t.told p.taken;
+        consumed = Consumes-trans old now now' t.bytes (take n page) t.consumed p.taken;
         goes = record {
           ended = t.goes.ended ++ g.ended;
           rows = λ rest. ap (pieces_of qs) (append_assoc t.bytes (take n page) rest) ∙ t.goes.rows (take n page ++ rest) ∙ ap (λ ls. t.goes.ended ++ ls) (g.rows rest) ∙ sym (append_assoc t.goes.ended g.ended (pieces_of qs (line' ++ rest)));
@@ -148,8 +148,8 @@ module _ {V : Type 0} (qs : Bool) (taken : V → List Piece → V → Type 0) wh
       let no_bytes : take n page ≡ [] = rw none refl in
       record {
         bytes = t.bytes;
-        held = at_end old now t.bytes t.told (p.at_end none room);
-        told = subst (Consumes old now') (ap (λ l. t.bytes ++ l) no_bytes ∙ append-nil t.bytes) (Consumes-trans old now now' t.bytes (take n page) t.told p.taken);
+        held = at_end old now t.bytes t.consumed (p.at_end none room);
+        consumed = subst (Consumes old now') (ap (λ l. t.bytes ++ l) no_bytes ∙ append-nil t.bytes) (Consumes-trans old now now' t.bytes (take n page) t.consumed p.taken);
         within = omega arith;
         ended = t.goes.ended;
         pieces = took_lines h t;
@@ -159,17 +159,19 @@ module _ {V : Type 0} (qs : Bool) (taken : V → List Piece → V → Type 0) wh
 
   -- a read fails, or none is left
   pub took_stopped : (longest : ℕ) → (settled : V → Type 0) → {v w : V} {line : List ℕ} {o : Bool} {old now : Option (List ℕ)} {limit reads size : ℕ} → Uncut 10 qs false line o → length line ≤ longest → Took qs taken v w line old now limit reads size → settled w
-      → (fails : Type 0) (now' : Option (List ℕ)) → (reads ≡ 0) ⊎ fails → Keeps now now' → StopsReading qs longest taken settled v w old now' fails limit
+      → (fails : Type 0) (now' : Option (List ℕ)) → (reads ≡ 0) ⊎ fails → Keeps now now' → StopsReading qs longest taken settled v w old now' fails limit size
   took_stopped longest settled {v} {w} {line} {o} {old} {now} {limit} {reads} {size} h begun t settles fails now' why kept =
-      let (rest, held) = all_bytes old now t.bytes t.told in
+      let (rest, held) = all_bytes old now t.bytes t.consumed in
       let counted : limit ≤ reads + length t.bytes = t.counted in
+      let short : length t.bytes + reads * size ≤ limit * size = t.short in
       let parts : length (t.bytes ++ rest) ≡ length t.bytes + length rest = length-append t.bytes rest in
       record {
         part = t.bytes;
         rest = rest;
         held = held;
         why = elim why [ inl none ↦ inr (omega arith) | inr f ↦ inl f ];
-        told = Consumes-kept old now now' t.bytes t.told kept;
+        consumed = Consumes-kept old now now' t.bytes t.consumed kept;
+        within = omega (arith, short);
         ended = t.goes.ended;
         last = (line, o);
         rows = took_lines h t;
@@ -184,7 +186,7 @@ module _ {V : Type 0} (qs : Bool) (taken : V → List Piece → V → Type 0) wh
       → ((rest : List ℕ) → refused w (rows_of qs (line ++ (take n page ++ rest))) w' e) → (rows_in : List ℕ → List Piece) → Completes qs rows_in → StopsTaking qs rows_in longest taken refused settled v w' e old now' limit size
   took_refused longest refused settled {v} {w} {w'} {e} {line} {o} {old} {now} {limit} {reads} {size} h begun t settles now' page n p fits some refuses rows_in completes =
       let front = take n page in
-      let told : Consumes old now' (t.bytes ++ front) = Consumes-trans old now now' t.bytes front t.told p.taken in
+      let told : Consumes old now' (t.bytes ++ front) = Consumes-trans old now now' t.bytes front t.consumed p.taken in
       let (rest, held) = all_bytes old now' (t.bytes ++ front) told in
       let short : length t.bytes + reads * size ≤ limit * size = t.short in
       let one : size ≤ reads * size = one_at_least reads size some in
@@ -204,7 +206,7 @@ module _ {V : Type 0} (qs : Bool) (taken : V → List Piece → V → Type 0) wh
         last = front;
         rest = rest;
         held = held;
-        told = told;
+        consumed = told;
         short = omega (arith, length-take {A = ℕ});
         within = omega (arith, length-take {A = ℕ});
         ended = t.goes.ended;

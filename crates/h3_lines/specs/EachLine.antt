@@ -1,5 +1,5 @@
 -- The answer to a list of which each line is answered on its own: for each line that is not blank what a function of one
--- index answers to the index that the line parses as, in order, up to the first error, which is told with its line.
+-- index answers to the index that the line parses as, in order, up to the first error, which is reported with its line.
 use Rattle.std.specs.Prelude.{◌≡◌, ℕ, ◌+◌, ◌==◌, nat_lt, Bool, List, [], ◌∷◌, length, Option, Result, Ok, Err, if◌then◌else◌}
 use Rattle.std.specs.Io.KnownBytes.{Keeps}
 use Rattle.h3_index.specs.Text.{parsed_index, trimmed}
@@ -15,7 +15,7 @@ use Rattle.h3_lines.specs.Ending.{AnswersAll, EndsEarly}
 use Rattle.h3_lines.specs.List.{lines_of}
 use Rattle.h3_lines.specs.Write.{IsLeft, SinkUse}
 
--- how the answer to the line with this number ends: an H3 error is told with the number
+-- how the answer to the line with this number ends: an H3 error is reported with the number
 abbrev pub ending_at : ℕ → Result (Unit {0}) AnswerError → Result (Unit {0}) AnswerError
 ending_at number (Ok u) = Ok u
 ending_at number (Err (Call e)) = Err (At number e)

@@ -19,7 +19,7 @@ use Rattle.h3_lines.specs.Write.{SinkUse, Writes}
 pub record AnswersAll (whole : List ℕ → Answer) (old new : Option (List ℕ)) (ending : Result (Unit {0}) RunError) (out : SinkUse) : Type 0 where
   pub list : List ℕ
   pub held : HasLeft old list
-  pub told : Consumes old new list
+  pub consumed : Consumes old new list
   pub within : IsWithinReads (2 ^ 40) 65536 list
   pub writes : Writes (whole list) ending out
 
@@ -28,39 +28,43 @@ pub record AnswersAll (whole : List ℕ → Answer) (old new : Option (List ℕ)
 --
 -- A read fails, or none is left. What was read before is a beginning of the list, and the rest is still left in the source:
 -- a read that fails takes none. The pieces that end in what was read are answered, without an error that ends the answer,
--- and no other: not the one that the fault cuts, of which no more was read than a piece may have.
+-- and no other: not the one that the fault cuts, of which no more was read than a piece may have. What was read fits
+-- into the reads that may be made.
 pub record AnswersBeforeFault {P : Type 0} (cut : List ℕ → List P) (size : P → ℕ) (longest : ℕ) (begun : List P → Answer) (old new : Option (List ℕ)) (has_failed : Bool) (out : SinkUse) : Type 0 where
   pub part : List ℕ
   pub rest : List ℕ
   pub held : HasLeft old (part ++ rest)
   pub fails : (has_failed ≡ true) ⊎ (2 ^ 40 ≤ length (part ++ rest))
-  pub told : Consumes old new part
+  pub consumed : Consumes old new part
+  pub within : length part ≤ 2 ^ 40 * 65536
   pub ended : List P
   pub last : P
   pub pieces : cut part ≡ ended ++ last ∷ []
   pub short : size last ≤ longest
   pub writes : Writes (begun ended) (Ok tt) out
 
--- StopsInPage cut begun ..: a part of the list is read, and then at most a page more; the pieces that end in that part do
--- not end the answer
+-- StopsInPage cut size longest begun ..: a part of the list is read, and then at most a page more; the pieces that end in
+-- that part do not end the answer, and the one that does not end in it is no longer than a piece may be
 --
 -- The bytes of the list, those left in the source where they are known. A part of them is read, and then at most a page
--- more; the answer to the pieces that end in that part has no error.
-pub record StopsInPage {P : Type 0} (cut : List ℕ → List P) (begun : List P → Answer) (old new : Option (List ℕ)) : Type 0 where
+-- more. The answer to the pieces that end in that part has no error, and of the piece that does not end in it no more was
+-- read before that page than a piece may have.
+pub record StopsInPage {P : Type 0} (cut : List ℕ → List P) (size : P → ℕ) (longest : ℕ) (begun : List P → Answer) (old new : Option (List ℕ)) : Type 0 where
   pub part : List ℕ
   pub last : List ℕ
   pub rest : List ℕ
   pub held : HasLeft old (part ++ last ++ rest)
-  pub told : Consumes old new (part ++ last)
+  pub consumed : Consumes old new (part ++ last)
   pub short : length last ≤ 65536
   pub within : length (part ++ last) ≤ 2 ^ 40 * 65536
   pub ended : List P
   pub unended : P
   pub pieces : cut part ≡ ended ++ unended ∷ []
+  pub bounded : size unended ≤ longest
   pub good : (begun ended).ending ≡ Ok tt
 
 -- list_at stop: the list whose reading stops so
-abbrev pub list_at : {P : Type 0} {cut : List ℕ → List P} {begun : List P → Answer} {old new : Option (List ℕ)} → StopsInPage cut begun old new → List ℕ
+abbrev pub list_at : {P : Type 0} {cut : List ℕ → List P} {size : P → ℕ} {longest : ℕ} {begun : List P → Answer} {old new : Option (List ℕ)} → StopsInPage cut size longest begun old new → List ℕ
 list_at s = s.part ++ s.last ++ s.rest
 
 -- TakesBeginning first whole sink: it failed, and took a beginning of the answer: that to the pieces of earlier pages,
@@ -78,7 +82,7 @@ pub record TakesBeginning (first whole : List ℕ) (out : SinkUse) : Type 0 wher
 -- EndsEarly cut size longest begun whole ..: how the answering of a list ends before the list does: an error ends the
 -- answer, or a write fails, and nothing is read beyond the page; or a read fails, or none is left
 abbrev pub EndsEarly : {P : Type 0} → (List ℕ → List P) → (P → ℕ) → ℕ → (List P → Answer) → (List ℕ → Answer) → Option (List ℕ) → Option (List ℕ) → Bool → RunError → SinkUse → Type 0
-EndsEarly cut size longest begun whole old new has (Error e) out = (stop : StopsInPage cut begun old new) × Writes (whole (list_at stop)) (Err (Error e)) out
-EndsEarly cut size longest begun whole old new has (Fault Write) out = (stop : StopsInPage cut begun old new) × TakesBeginning (begun stop.ended).output (whole (list_at stop)).output out
+EndsEarly cut size longest begun whole old new has (Error e) out = (stop : StopsInPage cut size longest begun old new) × Writes (whole (list_at stop)) (Err (Error e)) out
+EndsEarly cut size longest begun whole old new has (Fault Write) out = (stop : StopsInPage cut size longest begun old new) × TakesBeginning (begun stop.ended).output (whole (list_at stop)).output out
 EndsEarly cut size longest begun whole old new has (Fault Read) out = AnswersBeforeFault cut size longest begun old new has out
 EndsEarly cut size longest begun whole old new has (Fault Memory) out = ⊥

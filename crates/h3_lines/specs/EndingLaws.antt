@@ -5,7 +5,7 @@ use Rattle.std.specs.Io.KnownBytes.{Appends}
 use Rattle.h3_lines.specs.Answer.{Answer, before, written}
 use Rattle.h3_lines.specs.Answering.{Answered, EndsBy, RefusesEach}
 use Rattle.h3_lines.specs.EachLaws.{may_after, part_after, taken_after}
-use Rattle.h3_lines.specs.Ending.{EndsEarly, StopsInPage, TakesBeginning}
+use Rattle.h3_lines.specs.Ending.{EndsEarly, StopsInPage, TakesBeginning, list_at}
 use Rattle.h3_lines.specs.Pieces.{Piece, pieces_of}
 use Rattle.h3_lines.specs.Splitting.{StopsReading, StopsTaking}
 use Rattle.h3_lines.specs.Write.{SinkUse, Takes, TakesPart, Writes, sink_use}
@@ -104,18 +104,19 @@ module _ {S V L N P : Type 0} (qs : Bool) (rows_in : List ℕ → List Piece) (l
     (size : P → ℕ) (sizes : (p : Piece) → size (one p) ≡ length p.0)
     (v w : V) (last : L) (none : held v ≡ []) (begun : List P → Answer) (begins : (ls : List Piece) → answer_of v nothing (state v) ls ≡ begun (each ls))
     (whole : List ℕ → Answer) (wholes : (bytes : List ℕ) → answer_of v last (state v) (rows_in bytes) ≡ whole bytes) (old new : Option (List ℕ)) where
-  stops_in_page : (e : RunError) → StopsTaking qs rows_in longest takes refused settled v w e old new (2 ^ 40) 65536 → StopsInPage cut begun old new
+  stops_in_page : (e : RunError) → StopsTaking qs rows_in longest takes refused settled v w e old new (2 ^ 40) 65536 → StopsInPage cut size longest begun old new
   stops_in_page e s = record {
     part = s.part;
     last = s.last;
     rest = s.rest;
     held = s.held;
-    told = s.told;
+    consumed = s.consumed;
     short = s.short;
     within = s.within;
     ended = each s.ended;
     unended = one s.unended;
     pieces = cuts s.part s.ended s.unended s.rows;
+    bounded = rw (sizes s.unended) s.begun;
     good = ap (λ b. b.ending) (sym (begins s.ended) ∙ begun_whole taken failed (answer_of v) (answers v s.mid s.ended s.takes) none (empty s.mid s.settles) nothing (is_nothing v (state s.mid)));
   }
 
@@ -139,8 +140,21 @@ module _ {S V L N P : Type 0} (qs : Bool) (rows_in : List ℕ → List Piece) (l
   stopped (Fault Read) has s = absurd (refuses_mid (Fault Read) s last)
   stopped (Fault Memory) has s = absurd (refuses_mid (Fault Memory) s last)
 
+  -- a piece ends the answer with an error, whatever comes last
+  pub ends_at_piece : (e : AnswerError) → StopsTaking qs rows_in longest takes refused settled v w (Error e) old new (2 ^ 40) 65536
+      → (stop : StopsInPage cut size longest begun old new) × Writes (whole (list_at stop)) (Err (Error e)) (sink_use taken failed (out v) (out w))
+      × ((other : L) → (answer_of v other (state v) (rows_in (list_at stop))).ending ≡ Err e)
+  unfolding stops_in_page Writes
+  ends_at_piece e s =
+      let written_by : (other : L) → Writes (answer_of v other (state v) (rows_in (s.part ++ s.last ++ s.rest))) (Err (Error e)) (sink_use taken failed (out v) (out w)) =
+      λ other. error_written taken failed (answer_of v) (answers v s.mid s.ended s.takes) none (empty s.mid s.settles) other (out w) s.refuses.later _ e s.refuses.rows (refuses_mid (Error e) s) in (
+        stops_in_page (Error e) s,
+        subst (λ b. Writes b (Err (Error e)) (sink_use taken failed (out v) (out w))) (wholes (s.part ++ s.last ++ s.rest)) (written_by last),
+        λ other. (written_by other).0,
+      )
+
   -- a read fails, or a piece ends the answer, or a write fails
-  pub ends_early : (had has : Bool) (e : RunError) → ((e ≡ Fault Read) × StopsReading qs longest takes settled v w old new (has ≡ true) (2 ^ 40)) ⊎ (StopsTaking qs rows_in longest takes refused settled v w e old new (2 ^ 40) 65536 × (has ≡ had))
+  pub ends_early : (had has : Bool) (e : RunError) → ((e ≡ Fault Read) × StopsReading qs longest takes settled v w old new (has ≡ true) (2 ^ 40) 65536) ⊎ (StopsTaking qs rows_in longest takes refused settled v w e old new (2 ^ 40) 65536 × (has ≡ had))
       → EndsEarly cut size longest begun whole old new has e (sink_use taken failed (out v) (out w))
   ends_early had has e (inr (s, kept)) = stopped e has s
   ends_early had has (Fault Read) (inl (is, s)) = record {
@@ -148,7 +162,8 @@ module _ {S V L N P : Type 0} (qs : Bool) (rows_in : List ℕ → List Piece) (l
     rest = s.rest;
     held = s.held;
     fails = s.why;
-    told = s.told;
+    consumed = s.consumed;
+    within = s.within;
     ended = each s.ended;
     last = one s.last;
     pieces = cuts s.part s.ended s.last s.rows;

@@ -1,4 +1,4 @@
--- The list of cells in the bytes of an input, where the error of a faulty line is told with the number of the line.
+-- The list of cells in the bytes of an input, where the error of a faulty line is reported with the number of the line.
 use Rattle.std.specs.Prelude.{◌≡◌, ℕ, ◌+◌, List, [], ◌∷◌, ⊤, Option, Result, Ok, Err}
 use Rattle.h3_index.specs.Cell.{Address}
 use Rattle.h3_index.specs.declared.error.H3Error.{H3Error}
@@ -23,9 +23,9 @@ faulty_from number (line ∷ lines) = number_of_fault number (said_by line) (fau
 abbrev pub faulty_line : List ℕ → ℕ
 faulty_line bytes = faulty_from 1 (lines_of bytes)
 
--- RefusesAt: `RefusesList`, where the list's own error is told with this number of a line
+-- RefusesAt: `RefusesList`, where the list's own error is reported with this number of a line
 --
--- a refusal fits the list: an error is the list's own, told with this number, out of memory says nothing of it, and a
+-- a refusal fits the list: an error is the list's own, reported with this number, out of memory says nothing of it, and a
 -- read fault comes only where reads fail
 abbrev pub RefusesAt : Type 0 → Result (List Address) H3Error → ℕ → RunError → Type 0
 RefusesAt read_fails list number (Error e) = (error : H3Error) × (list ≡ Err error) × (e ≡ At number error)
@@ -38,7 +38,7 @@ abbrev pub without_line : AnswerError → AnswerError
 without_line (At line e) = Call e
 without_line e = e
 
--- without_number: a refusal told without the number of its line
+-- without_number: a refusal reported without the number of its line
 abbrev pub without_number : RunError → RunError
 without_number (Error e) = Error (without_line e)
 without_number (Fault f) = Fault f

@@ -21,7 +21,7 @@ pub record Goes {V : Type 0} (q : Bool) (taken : V → List Piece → V → Type
 pub record TakesAll {V : Type 0} (rows : List ℕ → List Piece) (taken : V → List Piece → V → Type 0) (v w : V) (old new : Option (List ℕ)) (reads page : ℕ) : Type 0 where
   pub bytes : List ℕ
   pub held : HasLeft old bytes
-  pub told : Consumes old new bytes
+  pub consumed : Consumes old new bytes
   pub within : IsWithinReads reads page bytes
   pub takes : taken v (rows bytes) w
 
@@ -31,21 +31,23 @@ pub record TakesEnded {V : Type 0} (q : Bool) (longest : ℕ) (taken : V → Lis
     (old new : Option (List ℕ)) (reads page : ℕ) : Type 0 where
   pub bytes : List ℕ
   pub held : HasLeft old bytes
-  pub told : Consumes old new bytes
+  pub consumed : Consumes old new bytes
   pub within : IsWithinReads reads page bytes
   pub ended : List Piece
   pub pieces : pieces_of q bytes ≡ ended ++ (left, inside) ∷ []
   pub short : length left ≤ longest
   pub takes : taken v ended w
 
--- StopsReading quotes longest taken settled v w old new fails reads: a read failed, or none was left; the source had these
--- bytes, of which a part was read before; the rows that end in that part were taken
-pub record StopsReading {V : Type 0} (q : Bool) (longest : ℕ) (taken : V → List Piece → V → Type 0) (settled : V → Type 0) (v w : V) (old new : Option (List ℕ)) (fails : Type 0) (reads : ℕ) : Type 0 where
+-- StopsReading quotes longest taken settled v w old new fails reads page: a read failed, or none was left; the source had
+-- these bytes, of which a part was read before, in so many reads of such a page at most; the rows that end in that part
+-- were taken
+pub record StopsReading {V : Type 0} (q : Bool) (longest : ℕ) (taken : V → List Piece → V → Type 0) (settled : V → Type 0) (v w : V) (old new : Option (List ℕ)) (fails : Type 0) (reads page : ℕ) : Type 0 where
   pub part : List ℕ
   pub rest : List ℕ
   pub held : HasLeft old (part ++ rest)
   pub why : fails ⊎ (reads ≤ length (part ++ rest))
-  pub told : Consumes old new part
+  pub consumed : Consumes old new part
+  pub within : length part ≤ reads * page
   pub ended : List Piece
   pub last : Piece
   pub rows : pieces_of q part ≡ ended ++ last ∷ []
@@ -76,7 +78,7 @@ pub record StopsTaking {V : Type 0} (q : Bool) (rows_in : List ℕ → List Piec
   pub last : List ℕ
   pub rest : List ℕ
   pub held : HasLeft old (part ++ last ++ rest)
-  pub told : Consumes old new (part ++ last)
+  pub consumed : Consumes old new (part ++ last)
   pub short : length last ≤ page
   pub within : length (part ++ last) ≤ reads * page
   pub ended : List Piece

@@ -21,7 +21,7 @@ module _ {V : Type 0} (q : Bool) (longest : ℕ) (taken : V → List Piece → V
   -- more are taken
   pub ended_taken : ((u v w : V) (xs ys : List Piece) → taken u xs v → taken v ys w → taken u (xs ++ ys) w) → {x : V} → taken w more x → TakesAll rows_in taken v x old new reads page
   ended_taken both {x} takes =
-      record { bytes = t.bytes; held = t.held; told = t.told; within = t.within; takes = subst (λ ls. taken v ls x) (sym rows) (both v w x t.ended more t.takes takes) }
+      record { bytes = t.bytes; held = t.held; consumed = t.consumed; within = t.within; takes = subst (λ ls. taken v ls x) (sym rows) (both v w x t.ended more t.takes takes) }
 
   -- one of them is refused
   pub ended_refused : (refused : V → List Piece → V → RunError → Type 0) (settled : V → Type 0) {x : V} {e : RunError} → settled w → refused w more x e → StopsTaking q rows_in longest taken refused settled v x e old new reads page
@@ -35,7 +35,7 @@ module _ {V : Type 0} (q : Bool) (longest : ℕ) (taken : V → List Piece → V
         last = [];
         rest = [];
         held = subst (HasLeft old) (sym whole) t.held;
-        told = subst (Consumes old new) (sym (append-nil t.bytes)) t.told;
+        consumed = subst (Consumes old new) (sym (append-nil t.bytes)) t.consumed;
         short = omega arith;
         within = omega (arith, front, within);
         ended = t.ended;

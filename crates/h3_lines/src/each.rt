@@ -17,7 +17,7 @@ ghost use Rattle.h3_lines.specs.declared.splitting.TheConstants.{LONGEST_LINE};
 use crate::line::{BLOCK, Line};
 use crate::plain::{IndexJob, LINES, take_plain};
 use crate::run_error::{Fault, RunError};
-use crate::splitting::{Job, LONGEST_LINE, MAX_READS, PAGE, Taking, drive, row_page};
+use crate::splitting::{Job, JobContract, LONGEST_LINE, MAX_READS, PAGE, drive, row_page};
 use crate::stop::Stop;
 use crate::write::{make_room, write_held};
 use h3_index::{H3Error, is_blank_text, read_index};
@@ -124,7 +124,7 @@ pub fn refuse<W: Sink>(out: &mut W, held: &[u8], number: u64, error: H3Error) ->
 /// The answers held back, in a block that is written when it is full, the number of the next line,
 /// and the place at which its index is looked for.
 #[derive(Drop)]
-pub(crate) struct Held<'a, W> {
+pub(crate) struct Output<'a, W> {
     pub(crate) out: &'a mut W,
     pub(crate) number: u64,
     pub(crate) place: usize,
@@ -141,7 +141,7 @@ pub(crate) trait Answering {
     ghost answer_of: { Self → Option ℕ → Answer };
 
     /// Puts the answer to the index on the next line. What has no room is written.
-    fn answer<'a, W: Sink>(&self, index: Option<u64>, held: &mut Held<'a, W>) -> Result<(), Stop>
+    fn answer<'a, W: Sink>(&self, index: Option<u64>, held: &mut Output<'a, W>) -> Result<(), Stop>
         requires { held.old.number < 2 ^ 63 }
         ensures ok { OnOk result ((line : Piece) →
             line_answer (answer_of self.now) line.0 ≡ answer_of self.now index →
@@ -180,7 +180,11 @@ impl<'f, F: AnswerLine> Answering for Short<'f, F> {
     ghost answer_of = { λ f. F.answer_of f.function.now };
 
     #[inline(always)]
-    fn answer<'a, W: Sink>(&self, index: Option<u64>, held: &mut Held<'a, W>) -> Result<(), Stop> {
+    fn answer<'a, W: Sink>(
+        &self,
+        index: Option<u64>,
+        held: &mut Output<'a, W>,
+    ) -> Result<(), Stop> {
         let at = make_room(held.out, &mut held.block, held.end)?;
         match self
             .function
@@ -212,11 +216,11 @@ impl<'f, F: AnswerLine> Answering for Short<'f, F> {
 /// The answers to the lines of a list.
 #[derive(Drop)]
 struct Answers<'a, 'f, W, A> {
-    held: Held<'a, W>,
+    held: Output<'a, W>,
     function: &'f A,
 }
 
-impl<'a, 'f, W: Sink, A: Answering> Taking for Answers<'a, 'f, W, A> {
+impl<'a, 'f, W: Sink, A: Answering> JobContract for Answers<'a, 'f, W, A> {
     ghost longest = { LONGEST_LINE };
 
     ghost count = { λ v. v.held.number };
@@ -352,7 +356,7 @@ pub(crate) fn answer_pages<R: Source, W: Sink, A: Answering>(
         (R.has_failed input.old) (R.has_failed input.new) result
         (sink_use W.taken W.has_failed out.old out.new) }
 {
-    let held = Held {
+    let held = Output {
         out: &mut *out,
         number: 1,
         place: 0,

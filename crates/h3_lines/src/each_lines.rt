@@ -8,7 +8,7 @@ ghost use Rattle.h3_lines.specs.EachLine.{EndsEach};
 ghost use Rattle.h3_lines.specs.EachLines.{GivesLines};
 ghost use Rattle.h3_lines.specs.Write.{sink_use};
 
-use crate::each::{Answering, Held, answer_pages, stop};
+use crate::each::{Answering, Output, answer_pages, stop};
 use crate::line::Line;
 use crate::run_error::RunError;
 use crate::splitting::{LONGEST_LINE, PAGE, row_page};
@@ -70,7 +70,11 @@ struct Long<'f, F> {
 impl<'f, F: LinesFunction> Answering for Long<'f, F> {
     ghost answer_of = { λ f. F.answer_of f.function.now };
 
-    fn answer<'a, W: Sink>(&self, index: Option<u64>, held: &mut Held<'a, W>) -> Result<(), Stop> {
+    fn answer<'a, W: Sink>(
+        &self,
+        index: Option<u64>,
+        held: &mut Output<'a, W>,
+    ) -> Result<(), Stop> {
         match self.function.lines(index) {
             Ok(items) => {
                 held.end = put_lines(held.out, &mut held.block, held.end, items)?;

@@ -4,6 +4,7 @@
 
 mod each;
 mod each_lines;
+mod each_text;
 mod ending;
 pub mod laws;
 mod line;
@@ -17,13 +18,14 @@ mod write;
 
 pub use each::{AnswerLine, answer_each, put_result, refuse};
 pub use each_lines::{LinesFunction, answer_each_lines, walk_through};
+pub use each_text::{TextFunction, answer_each_text};
 pub use ending::report;
 pub use line::{ANSWER, BLOCK, Line, RingCell};
 pub use list::{read_cells, read_list, read_numbered_cells};
 pub use plain::LINES;
 pub use run_error::{AnswerError, CellFile, ColumnError, Fault, RowError, RowFault, RunError};
 pub use splitting::{
-    Job, MAX_READS, PAGE, Taking, drive, drive_to_end, lengthen, row_page, split, take_last,
+    Job, JobContract, MAX_READS, PAGE, drive, drive_to_end, lengthen, row_page, split, take_last,
 };
 pub use taking::{CellJob, take_cells};
 pub use write::{

@@ -34,7 +34,13 @@ pub trait Line {
 /// they end. All of the bytes are copied, since that is fast where their number is known to the
 /// compiler.
 #[inline(always)]
-fn put_ended(block: &mut [u8; BLOCK], at: usize, bytes: &[u8], count: usize, end: u8) -> usize
+pub(crate) fn put_ended(
+    block: &mut [u8; BLOCK],
+    at: usize,
+    bytes: &[u8],
+    count: usize,
+    end: u8,
+) -> usize
     requires within { count ≤ length bytes.now }
     requires room { at + length bytes.now < BLOCK }
     ensures end { result ≡ at + count + 1 }

@@ -54,7 +54,7 @@ impl CellJob for Vec<Cell> {
         q ∙ ap (λ l. l ++ ys) p ∙ append_assoc u.items xs ys };
 }
 
-/// The refusal of a list whose lines are told without a number.
+/// The refusal of a list whose lines are reported without a number.
 fn without_line(refusal: RunError) -> RunError
     ensures { result ≡ without_number refusal }
 {

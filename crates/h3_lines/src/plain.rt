@@ -6,7 +6,7 @@ ghost use Rattle.h3_lines.specs.Splitting.{BeginsLines, BeginsPlain, Goes, Parse
 ghost use Rattle.h3_lines.specs.Stop.{stopped_at};
 
 use crate::run_error::RunError;
-use crate::splitting::Taking;
+use crate::splitting::JobContract;
 use crate::stop::Stop;
 use h3_index::read_plain;
 
@@ -17,7 +17,7 @@ const PLAIN: usize = 15;
 pub const LINES: usize = 16;
 
 /// What takes lines that parse as an index.
-pub(crate) trait IndexJob: Taking {
+pub(crate) trait IndexJob: JobContract {
     /// The number of the line at which it stopped.
     ghost line: { Self → ℕ };
 

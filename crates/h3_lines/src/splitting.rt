@@ -56,7 +56,7 @@ pub fn lengthen(page: &mut Vec<u8>, size: usize)
 }
 
 /// What contracts say of a [`Job`]: the rows that it has taken, and those that it refuses.
-pub trait Taking {
+pub trait JobContract {
     /// How many bytes a row may have.
     ghost longest: { ℕ };
 
@@ -99,7 +99,7 @@ pub trait Taking {
 }
 
 /// Takes the rows of a list, one after another.
-pub trait Job: Taking {
+pub trait Job: JobContract {
     /// Takes a row. With `inside`, a quote is open at its end, and it is the last row. It may be longer
     /// than a row may be.
     ///
@@ -114,7 +114,7 @@ pub trait Job: Taking {
             Self.refused self.old ((row.now, inside) ∷ later) self.new e) };
 
     /// Takes one or more rows at the front of the bytes, if that is faster than `take`, and returns what
-    /// follows; `None` if it takes none. It is told whether quotes count.
+    /// follows; `None` if it takes none. `quotes` says whether quotes count.
     ///
     /// # Errors
     ///
@@ -402,7 +402,7 @@ pub fn drive_to_end<'a, J: Job, R: Source>(
     ensures err { IfErr result (λ e. (
         (e ≡ refusal.Fault Read) × StopsReading quotes J.longest J.taken J.settled job.old job.new
         (R.left (source_of reader.old)) (R.left (source_of reader.new))
-        (R.has_failed (source_of reader.new) ≡ true) (reads_allowed reader.old))
+        (R.has_failed (source_of reader.new) ≡ true) (reads_allowed reader.old) size)
         ⊎ (((rows_in : List ℕ → List Piece) → Completes quotes rows_in →
         StopsTaking quotes rows_in J.longest J.taken J.refused J.settled job.old job.new e
         (R.left (source_of reader.old)) (R.left (source_of reader.new))
@@ -456,7 +456,7 @@ pub fn drive<'a, J: Job, R: Source>(
     ensures err { IfErr result (λ e. (
         (e ≡ refusal.Fault Read) × StopsReading quotes J.longest J.taken J.settled job.old job.new
         (R.left (source_of reader.old)) (R.left (source_of reader.new))
-        (R.has_failed (source_of reader.new) ≡ true) (reads_allowed reader.old))
+        (R.has_failed (source_of reader.new) ≡ true) (reads_allowed reader.old) size)
         ⊎ (StopsTaking quotes (rows_of quotes) J.longest J.taken J.refused J.settled
         job.old job.new e
         (R.left (source_of reader.old)) (R.left (source_of reader.new))

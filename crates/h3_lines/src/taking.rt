@@ -16,7 +16,7 @@ ghost use Rattle.h3_lines.specs.declared.stop.Stop.TheVariants.{Refused};
 use crate::list::{cell_with, read_line};
 use crate::plain::{IndexJob, LINES, take_plain};
 use crate::run_error::{AnswerError, Fault, RunError};
-use crate::splitting::{Job, LONGEST_LINE, MAX_READS, PAGE, Taking, drive, row_page};
+use crate::splitting::{Job, JobContract, LONGEST_LINE, MAX_READS, PAGE, drive, row_page};
 use crate::stop::Stop;
 use h3_index::{Cell, H3Error};
 use h3_streams::{CountedReader, Source};
@@ -88,7 +88,7 @@ struct LineCells<V: CellJob> {
     ghost few: { V.count job ≤ number },
 }
 
-impl<V: CellJob> Taking for LineCells<V> {
+impl<V: CellJob> JobContract for LineCells<V> {
     ghost longest = { LONGEST_LINE };
 
     ghost count = { λ v. v.number };

@@ -1,6 +1,6 @@
 //! Writing to a sink.
 
-ghost use Rattle.std.specs.Prelude.{◌≡◌, ◌+◌, ◌<◌, ◌≤◌, ◌++◌, ℕ, List, length, take, true, All, IfErr, IfOk, OnOk, OnErr, Result};
+ghost use Rattle.std.specs.Prelude.{◌≡◌, ◌+◌, ◌<◌, ◌≤◌, ◌++◌, ◌∷◌, [], ℕ, List, length, take, true, All, IfErr, IfOk, OnOk, OnErr, Result};
 ghost use Rattle.std.specs.Io.KnownBytes.{Appends};
 ghost use Rattle.std.specs.Iterator.{AlwaysYields, IsFinite};
 ghost use Rattle.std.specs.List.{flat_map};
@@ -11,7 +11,7 @@ ghost use Rattle.h3_lines.specs.Answering.{Breaks, FailsPush, Moves};
 ghost use Rattle.h3_lines.specs.EachLines.{GivesLines};
 ghost use Rattle.h3_lines.specs.Write.{AppendsPart, Takes, Writes, sink_use};
 
-use crate::line::{ANSWER, BLOCK, Line};
+use crate::line::{ANSWER, BLOCK, Line, put_ended};
 use crate::run_error::{AnswerError, RunError};
 use h3_index::{Cell, H3Error};
 use h3_streams::{Sink, StreamFault};
@@ -137,6 +137,34 @@ pub(crate) fn put_lines<W: Sink, L: Line + Drop, I: Iterator<Item = L> + Drop>(
         last = item.put(block, last);
     }
     Ok(last)
+}
+
+/// Puts a text and a line feed after the bytes held back in a block, which end at `end`, and returns
+/// where they end then. If they do not fit, what is held back is written first, and a text that is
+/// longer than a block is written through, so that its line feed alone is held back.
+pub(crate) fn put_text<W: Sink>(
+    out: &mut W,
+    block: &mut [u8; BLOCK],
+    end: usize,
+    text: &[u8],
+) -> Result<usize, StreamFault>
+    requires { end ≤ BLOCK }
+    ensures within { IfOk result (λ last. last ≤ BLOCK) }
+    ensures ok { IfOk result (λ last.
+        Moves W.taken W.has_failed (take end block.old ++ (text.now ++ 10 ∷ []))
+        (take last block.new) out.old out.new) }
+    ensures err { OnErr result (FailsPush (take end block.old ++ (text.now ++ 10 ∷ []))
+        (sink_use W.taken W.has_failed out.old out.new)) }
+{
+    if text.len() < BLOCK - end {
+        return Ok(put_ended(block, end, text, text.len(), b'\n'));
+    }
+    write_all(out, &block[..end])?;
+    if text.len() < BLOCK {
+        return Ok(put_ended(block, 0, text, text.len(), b'\n'));
+    }
+    write_all(out, text)?;
+    Ok(put_ended(block, 0, b"", 0, b'\n'))
 }
 
 /// Writes a line for each item of an iterator that ends, and flushes. No item is kept, and no more

@@ -6,8 +6,8 @@ ghost use Rattle.h3_requests.specs.Rows.{is_counted};
 use crate::expected::{expect, expect_row};
 use h3_fakes::{Faults, FaultySource};
 use h3_lines::{AnswerError, ColumnError, Fault, RowError, RowFault, RunError};
-use h3_requests::{CellField, RowOptions};
-use h3_rows::{AreaTable, TableOptions, read_areas};
+use h3_requests::{CellField, RowOptions, TableOptions};
+use h3_rows::{AreaTable, read_areas};
 use std::alloc::{AllocError, Global};
 
 /// Which fields of a table, whose separator is a comma and in which quotes count, have cells and names.

@@ -11,4 +11,6 @@ mod reading;
 #[cfg(test)]
 mod refusals;
 #[cfg(test)]
+mod texts;
+#[cfg(test)]
 mod writing;

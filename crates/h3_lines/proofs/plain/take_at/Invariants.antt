@@ -5,6 +5,6 @@ use Rattle.h3_lines.proofs.plain.take_at.Given as goal
 
 abbrev pub invariant-loop-i : goal.invariant-loop-i
 invariant-loop-i g l = record {
-  took : (rows : List Piece) → ParseAll rows (take l.i l.indexes) → g.J.Taking.taken l.initial.job rows l.job;
-  counted : g.J.Taking.count l.job ≤ g.J.Taking.count l.initial.job + l.i;
+  took : (rows : List Piece) → ParseAll rows (take l.i l.indexes) → g.J.JobContract.taken l.initial.job rows l.job;
+  counted : g.J.JobContract.count l.job ≤ g.J.JobContract.count l.initial.job + l.i;
 }

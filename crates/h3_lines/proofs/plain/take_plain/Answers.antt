@@ -5,7 +5,7 @@ use Rattle.h3_lines.proofs.plain.take_plain.Goals as goal
 
 pub loop-index-init : goal.loop-index-init
 loop-index-init g c = record {
-  goes = λ q. goes_none q g.J.Taking.taken c.args.bytes.now (g.met.J.Taking.none_taken _);
+  goes = λ q. goes_none q g.J.JobContract.taken c.args.bytes.now (g.met.J.JobContract.none_taken _);
   same = λ _. refl;
   fewer = omega arith;
   counted = omega arith;
@@ -14,9 +14,9 @@ loop-index-init g c = record {
 pub loop-index-preserved : goal.loop-index-preserved
 loop-index-preserved g c =
     let less : length c.in-Some.after.now < length c.loop-index.left.now = plain_shorter c.loop-index.left.now c.in-Some.after.now c.in-Some.index c.in-Some.ensures in
-    let one : g.J.Taking.count c.take_index.new.self ≤ g.J.Taking.count c.loop-index.job + 1 = c.in_default-take_index.ensures.counted in
+    let one : g.J.JobContract.count c.take_index.new.self ≤ g.J.JobContract.count c.loop-index.job + 1 = c.in_default-take_index.ensures.counted in
     record {
-      goes = λ q. goes_then q g.J.Taking.taken g.met.J.Taking.taken_then (c.loop-index.invariant.goes q) (goes_plain g.J.Taking.taken q c.loop-index.left.now c.in-Some.after.now c.in-Some.index c.in-Some.ensures c.in_default-take_index.ensures.ok);
+      goes = λ q. goes_then q g.J.JobContract.taken g.met.J.JobContract.taken_then (c.loop-index.invariant.goes q) (goes_plain g.J.JobContract.taken q c.loop-index.left.now c.in-Some.after.now c.in-Some.index c.in-Some.ensures c.in_default-take_index.ensures.ok);
       same = λ all. absurd (omega (arith, all, less, c.loop-index.invariant.fewer));
       fewer = omega (arith, less, c.loop-index.invariant.fewer);
       counted = omega (arith, less, one, c.loop-index.invariant.counted);
@@ -24,5 +24,5 @@ loop-index-preserved g c =
 
 pub returns-in-Err-clause-err : goal.returns-in-Err-clause-err
 returns-in-Err-clause-err g c q rest =
-    rw (c.at.ensures, c.line.ensures) (goes_refused q g.J.Taking.taken g.J.Taking.refused g.met.J.Taking.refused_then rest (c.loop-index.invariant.goes q)
-    (refused_plain g.J.Taking.refused q c.loop-index.left.now c.in-Some.after.now rest c.in-Some.index c.in-Some.ensures c.in-Err.ensures.err))
+    rw (c.at.ensures, c.line.ensures) (goes_refused q g.J.JobContract.taken g.J.JobContract.refused g.met.J.JobContract.refused_then rest (c.loop-index.invariant.goes q)
+    (refused_plain g.J.JobContract.refused q c.loop-index.left.now c.in-Some.after.now rest c.in-Some.index c.in-Some.ensures c.in-Err.ensures.err))

@@ -4,10 +4,10 @@ use Rattle.h3_lines.proofs.plain.take_plain.Given as goal
 
 abbrev pub invariant-loop-index : goal.invariant-loop-index
 invariant-loop-index g l = record {
-  goes : (q : Bool) → Goes q g.J.Taking.taken l.initial.job [] l.bytes l.job [] l.left;
+  goes : (q : Bool) → Goes q g.J.JobContract.taken l.initial.job [] l.bytes l.job [] l.left;
   same : length l.bytes ≤ length l.left → l.job ≡ l.initial.job;
   fewer : length l.left ≤ length l.bytes;
-  counted : g.J.Taking.count l.job + length l.left ≤ g.J.Taking.count l.initial.job + length l.bytes;
+  counted : g.J.JobContract.count l.job + length l.left ≤ g.J.JobContract.count l.initial.job + length l.bytes;
 }
 
 abbrev pub decreases-loop-index : goal.decreases-loop-index

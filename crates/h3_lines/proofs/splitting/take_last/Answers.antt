@@ -18,16 +18,16 @@ pub returns-in_err-take-clause-err : goal.returns-in_err-take-clause-err
 returns-in_err-take-clause-err g c =
     let p = err_from_is_err_and c.from_residual.result c.from_residual.ensures.1 in
     let some : 0 < length c.args.row.now = some_from_test c.args.row.now c.is_empty.result c.is_empty.ensures c.if-is_empty.false in
-    rw (p.1, p.2) (last_refused c.args.row.now c.args.inside some g.J.Taking.refused c.in_err-take.ensures.err)
+    rw (p.1, p.2) (last_refused c.args.row.now c.args.inside some g.J.JobContract.refused c.in_err-take.ensures.err)
 
 pub returns-clause-ok : goal.returns-clause-ok
 returns-clause-ok g c =
     let some : 0 < length c.args.row.now = some_from_test c.args.row.now c.is_empty.result c.is_empty.ensures c.if-is_empty.false in
-    let took = last_taken c.args.row.now c.args.inside some g.J.Taking.taken c.in_ok-take.ensures.ok in
-    on_ok_weaker c.settle-2.result (taken_settled false g.J.Taking.taken g.met.J.Taking.taken_then took) c.settle-2.ensures.ok
+    let took = last_taken c.args.row.now c.args.inside some g.J.JobContract.taken c.in_ok-take.ensures.ok in
+    on_ok_weaker c.settle-2.result (taken_settled false g.J.JobContract.taken g.met.J.JobContract.taken_then took) c.settle-2.ensures.ok
 
 pub returns-clause-err : goal.returns-clause-err
 returns-clause-err g c =
     let some : 0 < length c.args.row.now = some_from_test c.args.row.now c.is_empty.result c.is_empty.ensures c.if-is_empty.false in
-    let took = last_taken c.args.row.now c.args.inside some g.J.Taking.taken c.in_ok-take.ensures.ok in
-    IfErr-weaker c.settle-2.result _ _ (λ e refuses. refused_settled false g.J.Taking.taken g.J.Taking.refused g.met.J.Taking.refused_then took (refuses [])) c.settle-2.ensures.err
+    let took = last_taken c.args.row.now c.args.inside some g.J.JobContract.taken c.in_ok-take.ensures.ok in
+    IfErr-weaker c.settle-2.result _ _ (λ e refuses. refused_settled false g.J.JobContract.taken g.J.JobContract.refused g.met.J.JobContract.refused_then took (refuses [])) c.settle-2.ensures.err

@@ -4,8 +4,8 @@ use Rattle.h3_lines.proofs.splitting.take_rows.Given as goal
 
 abbrev pub invariant-loop-left : goal.invariant-loop-left
 invariant-loop-left g l = record {
-  goes : Goes l.quotes g.J.Taking.taken l.initial.job [] l.bytes l.job [] l.left;
-  counted : g.J.Taking.count l.job + length l.left ≤ g.J.Taking.count l.initial.job + length l.bytes;
+  goes : Goes l.quotes g.J.JobContract.taken l.initial.job [] l.bytes l.job [] l.left;
+  counted : g.J.JobContract.count l.job + length l.left ≤ g.J.JobContract.count l.initial.job + length l.bytes;
 }
 
 abbrev pub decreases-loop-left : goal.decreases-loop-left

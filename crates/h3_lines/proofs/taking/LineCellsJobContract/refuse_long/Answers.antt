@@ -1,5 +1,5 @@
 use Rattle.h3_lines.proofs.Listed.{refuses_long}
-use Rattle.h3_lines.proofs.taking.LineCellsTaking.refuse_long.Goals as goal
+use Rattle.h3_lines.proofs.taking.LineCellsJobContract.refuse_long.Goals as goal
 
 pub returns : goal.returns
 returns g c p long later = refuses_long c.args.self.now.number p later long

@@ -1,6 +1,6 @@
 use Rattle.std.proofs.Common.{refl, []}
 use Rattle.h3_lines.specs.EachLaws.{answered_by, moves_all}
-use Rattle.h3_lines.proofs.each.AnswersTaking.settle.Goals as goal
+use Rattle.h3_lines.proofs.each.AnswersJobContract.settle.Goals as goal
 
 pub returns-clause-ok : goal.returns-clause-ok
 returns-clause-ok g c =

@@ -1,7 +1,7 @@
 use Rattle.std.proofs.Common.{refl, take}
 use Rattle.h3_lines.specs.Write.{sink_use}
 use Rattle.h3_lines.proofs.AnsweredLines.{answer_long, lines_refused}
-use Rattle.h3_lines.proofs.each.AnswersTaking.refuse_long.Goals as goal
+use Rattle.h3_lines.proofs.each.AnswersJobContract.refuse_long.Goals as goal
 
 pub returns : goal.returns
 returns g c p long later =
