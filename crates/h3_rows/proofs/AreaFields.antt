@@ -8,7 +8,7 @@ use Rattle.std.proofs.lemmas.List.Elements.{All-append, All-cons, All-head, All-
 use Rattle.std.proofs.lemmas.List.Folds.{list_all-append}
 use Rattle.h3_index.specs.Cell.{Address}
 use Rattle.h3_index.specs.Text.{is_blank, trimmed, without_leading_blanks, without_trailing_blanks}
-use Rattle.h3_lines.specs.Pieces.{Piece, Uncut, cut, inside_after, is_uncut, pieces_of, rows_of, turned, with_first, without_last_nothing}
+use Rattle.h3_lines.specs.Pieces.{Piece, cut, inside_after, is_uncut, pieces_of, rows_of, turned, with_first, without_last_nothing}
 use Rattle.h3_lines.specs.PiecesLaws.{and_false, both, inside_after-append}
 use Rattle.h3_lines.specs.declared.run_error.AnswerError.{AnswerError}
 use Rattle.h3_lines.specs.declared.run_error.ColumnError.{ColumnError}
@@ -16,10 +16,10 @@ use Rattle.h3_lines.specs.declared.run_error.RowError.{RowError}
 use Rattle.h3_lines.specs.declared.run_error.RowFault.{RowFault}
 use Rattle.h3_rows.specs.Areas as areas
 use Rattle.h3_rows.specs.Areas.{EntriesAreFields, IsOneField, NamedCell, NamesAreFields, cells_among, name_text, named_before, names_after, place_of, with_place}
-use Rattle.h3_rows.specs.Cells.{cell_said}
+use Rattle.h3_rows.specs.Cells.{cell_read}
 use Rattle.h3_rows.specs.Named.{Entry, Found, Table, entries_at, filled_found, found_before, found_unless, header_found, name_at, named_end, named_found, named_then, table_columns, table_first, title_list, unless_named, with_name}
 use Rattle.h3_rows.specs.Row.{is_padded, is_read_alike, next_number, opens_well, piece_at, quotes_are_sound, read_of, row_body, without_order_mark}
-use Rattle.h3_rows.specs.RowsAnswer.{After, Choice, Named, malformed, row_said}
+use Rattle.h3_rows.specs.RowsAnswer.{After, Choice, Named, malformed, row_cell}
 use Rattle.h3_rows.specs.declared.table.TableColumns.{TableColumns}
 use Rattle.h3_rows.proofs.Alike.{alike_last}
 use Rattle.h3_rows.proofs.Feeds.{two_hold}
@@ -465,7 +465,7 @@ module _ (table : Table) (quote : (34 == table.form.separator) ≡ false) where
   filled_fields n line None r entries is = header_fields (read_of n (row_body line)) r (table_columns table (read_of n (row_body line))) entries is
   filled_fields n line (Some columns) r entries is =
       let row = read_of n (row_body line) in
-      cell_fields n row columns.name r (cell_said (row_said table.form n columns.cell (row_body line))) (name_at table.form columns.name row) refl entries is
+      cell_fields n row columns.name r (cell_read (row_cell table.form n columns.cell (row_body line))) (name_at table.form columns.name row) refl entries is
 
   found_fields : (n : ℕ) (columns : Option TableColumns) (p : Piece) → IsPiece 10 quotes 0 false false p → (entries : List Entry) → (named_found table n columns p).cells ≡ Ok entries → AreFields entries
   found_fields n columns p piece entries is =

@@ -3,15 +3,16 @@ use Rattle.std.proofs.Common.{◌≡◌, ℕ, ◌^◌, ◌⊎◌, Bool, true, Li
 use Rattle.h3_lines.specs.Answer.{Answer, written}
 use Rattle.h3_lines.specs.Answering.{Answered, RefusesEach}
 use Rattle.h3_lines.specs.Ending.{AnswersAll}
-use Rattle.h3_lines.specs.EndingLaws.{begun_written, ends_early as early, last_written}
+use Rattle.h3_lines.specs.EndingLaws.{begun_written, ends_at_piece, ends_early as early, last_written}
 use Rattle.h3_lines.specs.Pieces.{Piece, pieces_of}
 use Rattle.h3_lines.specs.Splitting.{Completes, StopsReading, StopsTaking, TakesEnded}
 use Rattle.h3_lines.specs.SplittingLaws.{ended_refused}
 use Rattle.h3_lines.specs.Write.{SinkUse, Writes, sink_use}
+use Rattle.h3_lines.specs.declared.run_error.AnswerError.{AnswerError}
 use Rattle.h3_lines.specs.declared.run_error.Fault.TheVariants.{Memory, Read, Write}
 use Rattle.h3_lines.specs.declared.run_error.RunError.{RunError}
 use Rattle.h3_lines.specs.declared.run_error.RunError.TheVariants.{Error, Fault}
-use Rattle.h3_rows.specs.Each.{EndsRows, EndsRowsEarly, EndsRowsLate, by_rows}
+use Rattle.h3_rows.specs.Each.{EndsAtRow, EndsRows, EndsRowsEarly, EndsRowsLate, by_rows}
 use Rattle.h3_rows.specs.Row.{list_rows}
 use Rattle.h3_rows.specs.RowsAnswer.{Form, State, begun_answer, end_of, rows_answer, rows_then, start}
 use Rattle.h3_rows.proofs.LastRow.{list_completes}
@@ -19,15 +20,6 @@ use Rattle.h3_rows.proofs.LastRow.{list_completes}
 -- what is last where more rows may come
 abbrev pub nothing_last : State → Answer
 nothing_last s = written []
-
--- rows that end early, where a failed call of the source is a fault
-rows_early : {A B : Type 0} (qs : Bool) (whole begun : List Piece → Answer) (old new : Option (List ℕ)) (had has : Bool) (e : RunError) (out : SinkUse) → ((e ≡ Fault Read) × A) ⊎ (B × (has ≡ had)) → EndsRowsEarly qs whole begun old new has e out → EndsRows qs whole begun old new had has (Err e) out
-rows_early qs whole begun old new had has (Fault Read) out stops ends = ends
-rows_early qs whole begun old new had has (Error e) out (inr (s, kept)) ends = (kept, inr ends)
-rows_early qs whole begun old new had has (Fault Write) out (inr (s, kept)) ends = (kept, inr ends)
-rows_early qs whole begun old new had has (Fault Memory) out stops never = absurd never
-rows_early qs whole begun old new had has (Error e) out (inl (is, s)) ends = absurd (cc is)
-rows_early qs whole begun old new had has (Fault Write) out (inl (is, s)) ends = absurd (cc is)
 
 -- what takes the rows, and how it answers them
 module _ {S V : Type 0} (qs : Bool) (taken : S → Option (List ℕ)) (failed : S → Bool) (answer_of : V → (State → Answer) → State → List Piece → Answer) (none_left : (v : V) (last : State → Answer) (s : State) → answer_of v last s [] ≡ last s)
@@ -37,30 +29,48 @@ module _ {S V : Type 0} (qs : Bool) (taken : S → Option (List ℕ)) (failed : 
     (same : (v w : V) (ls : List Piece) → takes v ls w → answer_of w ≡ answer_of v)
     (refuses : (v w : V) (ls : List Piece) (e : RunError) → refused v ls w e → RefusesEach (answer_of v) (state v) (held v) ls e (sink_use taken failed (out v) (out w)))
     (empty : (v : V) → settled v → held v ≡ []) where
-  -- a read fails, or a row ends the answer, or a write fails
-  pub ends_early : (last : State → Answer) (v w : V) (old new : Option (List ℕ)) (had has : Bool) (e : RunError) → held v ≡ []
-      → ((e ≡ Fault Read) × StopsReading qs 1114111 takes settled v w old new (has ≡ true) (2 ^ 40)) ⊎ (StopsTaking qs (list_rows qs) 1114111 takes refused settled v w e old new (2 ^ 40) 65536 × (has ≡ had))
-      → EndsRows qs (answer_of v last (state v)) (answer_of v nothing_last (state v)) old new had has (Err e) (sink_use taken failed (out v) (out w))
-  ends_early last v w old new had has e none stops =
-      let ends : EndsRowsEarly qs (answer_of v last (state v)) (answer_of v nothing_last (state v)) old new has e (sink_use taken failed (out v) (out w)) =
-      early qs (list_rows qs) 1114111 taken failed answer_of nothing_last (λ v s. none_left v nothing_last s) state held out takes refused settled answers same refuses empty
-      (pieces_of qs) (λ ps. ps) (λ p. p) (λ bytes ended last is. is) (λ p. length p.0) (λ p. refl) v w last none (answer_of v nothing_last (state v)) (λ ls. refl) (by_rows qs (answer_of v last (state v))) (λ bytes. refl) old new had has e stops in
-      rows_early qs (answer_of v last (state v)) (answer_of v nothing_last (state v)) old new had has e _ stops ends
+  module _ (last : State → Answer) (v w : V) (old new : Option (List ℕ)) (none : held v ≡ []) where
+    -- a read or a write fails
+    by_fault : (had has : Bool) (e : RunError)
+        → ((e ≡ Fault Read) × StopsReading qs 1114111 takes settled v w old new (has ≡ true) (2 ^ 40) 65536) ⊎ (StopsTaking qs (list_rows qs) 1114111 takes refused settled v w e old new (2 ^ 40) 65536 × (has ≡ had))
+        → EndsRowsEarly qs (answer_of v last (state v)) (answer_of v nothing_last (state v)) old new has e (sink_use taken failed (out v) (out w))
+    by_fault had has e stops =
+        early qs (list_rows qs) 1114111 taken failed answer_of nothing_last (λ v s. none_left v nothing_last s) state held out takes refused settled answers same refuses empty
+        (pieces_of qs) (λ ps. ps) (λ p. p) (λ bytes ended last is. is) (λ p. length p.0) (λ p. refl) v w last none (answer_of v nothing_last (state v)) (λ ls. refl) (by_rows qs (answer_of v last (state v))) (λ bytes. refl) old new had has e stops
+
+    -- a row ends the answer
+    at_row : (has : Bool) (e : AnswerError) → StopsTaking qs (list_rows qs) 1114111 takes refused settled v w (Error e) old new (2 ^ 40) 65536
+        → EndsAtRow qs (answer_of v last (state v)) (answer_of v nothing_last (state v)) old new has e (sink_use taken failed (out v) (out w))
+    at_row has e s =
+        let (stop, writes, of_row) = ends_at_piece qs (list_rows qs) 1114111 taken failed answer_of nothing_last (λ v s. none_left v nothing_last s) state held out takes refused settled answers same refuses empty
+        (pieces_of qs) (λ ps. ps) (λ p. p) (λ bytes ended last is. is) (λ p. length p.0) (λ p. refl) v w last none (answer_of v nothing_last (state v)) (λ ls. refl) (by_rows qs (answer_of v last (state v))) (λ bytes. refl) old new e s in
+        ((stop, writes), of_row nothing_last)
+
+    -- either
+    pub ends_early : (had has : Bool) (e : RunError)
+        → ((e ≡ Fault Read) × StopsReading qs 1114111 takes settled v w old new (has ≡ true) (2 ^ 40) 65536) ⊎ (StopsTaking qs (list_rows qs) 1114111 takes refused settled v w e old new (2 ^ 40) 65536 × (has ≡ had))
+        → EndsRows qs (answer_of v last (state v)) (answer_of v nothing_last (state v)) old new had has (Err e) (sink_use taken failed (out v) (out w))
+    ends_early had has (Error e) (inr (s, kept)) = (kept, inr (at_row has e s))
+    ends_early had has (Error e) (inl (is, s)) = absurd (cc is)
+    ends_early had has (Fault Read) stops = by_fault had has (Fault Read) stops
+    ends_early had has (Fault Write) (inr (s, kept)) = (kept, inr (by_fault had has (Fault Write) (inr (s, kept))))
+    ends_early had has (Fault Write) (inl (is, s)) = absurd (cc is)
+    ends_early had has (Fault Memory) stops = absurd (by_fault had has (Fault Memory) stops)
 
   -- the same before the end of the source
   pub ends_before : (last : State → Answer) (v w : V) (old new : Option (List ℕ)) (had has : Bool) (e : RunError) → held v ≡ []
-      → ((e ≡ Fault Read) × StopsReading qs 1114111 takes settled v w old new (has ≡ true) (2 ^ 40))
+      → ((e ≡ Fault Read) × StopsReading qs 1114111 takes settled v w old new (has ≡ true) (2 ^ 40) 65536)
       ⊎ (((rows_in : List ℕ → List Piece) → Completes qs rows_in → StopsTaking qs rows_in 1114111 takes refused settled v w e old new (2 ^ 40) 65536) × (has ≡ had))
       → EndsRows qs (answer_of v last (state v)) (answer_of v nothing_last (state v)) old new had has (Err e) (sink_use taken failed (out v) (out w))
-  ends_before last v w old new had has e none (inl stops) = ends_early last v w old new had has e none (inl stops)
-  ends_before last v w old new had has e none (inr (stops, kept)) = ends_early last v w old new had has e none (inr (stops (list_rows qs) (list_completes qs), kept))
+  ends_before last v w old new had has e none (inl stops) = ends_early last v w old new none had has e (inl stops)
+  ends_before last v w old new had has e none (inr (stops, kept)) = ends_early last v w old new none had has e (inr (stops (list_rows qs) (list_completes qs), kept))
 
   -- all bytes are read, and the last row ends the answer, or a write fails
   pub ends_last : (last : State → Answer) (v w x : V) {left : List ℕ} {inside : Bool} (old new : Option (List ℕ)) (had has : Bool) (e : RunError) (more : List Piece) → held v ≡ [] → (t : TakesEnded qs 1114111 takes v w left inside old new (2 ^ 40) 65536)
       → list_rows qs t.bytes ≡ t.ended ++ more → settled w → has ≡ had → refused w more x e
       → EndsRows qs (answer_of v last (state v)) (answer_of v nothing_last (state v)) old new had has (Err e) (sink_use taken failed (out v) (out x))
   ends_last last v w x old new had has e more none t rows settles sound refuses =
-      ends_early last v x old new had has e none (inr (ended_refused qs 1114111 takes (list_rows qs) t more rows refused settled settles refuses, sound))
+      ends_early last v x old new none had has e (inr (ended_refused qs 1114111 takes (list_rows qs) t more rows refused settled settles refuses, sound))
 
   module _ (last : State → Answer) (v w x : V) (u : S) {left : List ℕ} {inside : Bool} (old new : Option (List ℕ)) (r : Result (Unit {0}) RunError) (more : List Piece) (none : held v ≡ []) (t : TakesEnded qs 1114111 takes v w left inside old new (2 ^ 40) 65536)
       (rows : list_rows qs t.bytes ≡ t.ended ++ more) (answered : Answered taken failed (answer_of v) (state v) (state x) (held v) (held x) (out v) (out x) (t.ended ++ more)) (settles : settled x) (writes : Writes (last (state x)) r (sink_use taken failed (out x) u)) where
@@ -70,7 +80,7 @@ module _ {S V : Type 0} (qs : Bool) (taken : S → Option (List ℕ)) (failed : 
         record {
           list = t.bytes;
           held = t.held;
-          told = t.told;
+          consumed = t.consumed;
           within = t.within;
           writes = subst (λ ls. Writes (answer_of v last (state v) ls) r (sink_use taken failed (out v) u)) (sym rows) (last_written taken failed (answer_of v) answered none (empty x settles) last u r end);
         }

@@ -4,10 +4,10 @@ pub mod AreaNames
 pub mod Beside
 pub mod Blanks
 pub mod Blocks
+pub mod CutAgain
 pub mod EndsRows
 pub mod Feeds
 pub mod Finding
-pub mod Kept
 pub mod LastRow
 pub mod Marks
 pub mod Masks
@@ -22,6 +22,8 @@ pub mod Stand
 pub mod Steps
 pub mod TakenCells
 pub mod TakenNamed
+pub mod Tails
+pub mod TextLaws
 pub mod Texts
 pub mod WholeFields
 pub mod Written

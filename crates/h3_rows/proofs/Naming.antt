@@ -1,5 +1,5 @@
 -- The names of new columns, put one after another.
-use Rattle.std.proofs.Common.{◌≡◌, ℕ, nat_eq, ◌≤◌, ◌&&◌, Bool, true, false, length, take, drop, arith, subst, Ok, List, [], ◌∷◌, ◌++◌, Option, Some, Result, sym, ap, ◌∙◌, refl, append-nil, append_assoc}
+use Rattle.std.proofs.Common.{◌≡◌, ℕ, nat_eq, ◌≤◌, ◌&&◌, Bool, true, false, length, take, drop, arith, subst, Ok, Err, List, [], ◌∷◌, ◌++◌, Option, Some, Result, sym, ap, ◌∙◌, refl, append-nil, append_assoc}
 use Rattle.std.proofs.lemmas.Grind.{flat_map-append}
 use Rattle.std.specs.List.{flat_map}
 use Rattle.std.specs.Str.{bytes_eq}
@@ -8,10 +8,14 @@ use Rattle.h3_lines.specs.Answering.{Moves}
 use Rattle.h3_rows.specs.Answering.{PutsBeside, PutsCell, listed}
 use Rattle.h3_rows.specs.Line.{line_of}
 use Rattle.h3_rows.specs.Row.{row_ending}
-use Rattle.h3_rows.specs.RowsAnswer.{Form, answer_said, answered_with, error_field, rows_with, unanswered}
-use Rattle.h3_rows.specs.declared.said.Said.{Said}
-use Rattle.h3_rows.specs.declared.said.Said.TheVariants.{Index}
+use Rattle.h3_rows.specs.RowForm.{columns_form, form_with}
+use Rattle.h3_rows.specs.RowsAnswer.{Choice, After, Named, Form, answer_to_cell, answered_with, choice_of, chosen_in, columns_in, error_field, free_columns, rows_with, unanswered, width_in, with_width}
+use Rattle.h3_rows.specs.declared.state.Columns.{Columns}
+use Rattle.h3_rows.specs.declared.row_cell.RowCell.{RowCell}
+use Rattle.h3_rows.specs.declared.row_cell.RowCell.TheVariants.{Index}
+use Rattle.h3_lines.specs.declared.run_error.ColumnError.{ColumnError}
 use Rattle.h3_lines.specs.declared.run_error.RowFault.{RowFault}
+use Rattle.h3_requests.specs.declared.rows.RowOptions.{RowOptions}
 use Rattle.h3_rows.specs.declared.row.Row.{Row}
 use Rattle.h3_rows.proofs.Returns.{body_of_row}
 
@@ -22,6 +26,23 @@ names_by_parts sep first second error answers errors a e =
     let f = λ (n : List ℕ). sep ∷ n in
     ap (λ l. l ++ (flat_map f (listed second) ++ flat_map f (listed error))) (append-nil (sep ∷ first)) ∙ ap (λ l. (sep ∷ first) ++ l) (sym (flat_map-append f (listed second) (listed error)))
     ∙ ap (λ l. flat_map f (l ++ listed error)) (sym a) ∙ ap (λ l. flat_map f (answers ++ l)) (sym e)
+
+-- ---- the columns by a header, whether quotes count in answers or not
+
+module _ (quoted : Bool) (options : RowOptions) (name : List ℕ) (is_pair : Bool) (row : List ℕ) where
+  chosen_same : (choice : Choice) → chosen_in (columns_form options name is_pair) choice row ≡ chosen_in (form_with quoted options name is_pair) choice row
+  chosen_same (After k) = refl
+  chosen_same (Named wanted) = refl
+
+  free_same : (columns : Result Columns ColumnError) → free_columns (columns_form options name is_pair) row columns ≡ free_columns (form_with quoted options name is_pair) row columns
+  free_same (Err e) = refl
+  free_same (Ok columns) = refl
+
+  pub free_columns_same : free_columns (columns_form options name is_pair) row (columns_in (columns_form options name is_pair) row) ≡ free_columns (form_with quoted options name is_pair) row (columns_in (form_with quoted options name is_pair) row)
+  free_columns_same =
+      let form = form_with quoted options name is_pair in
+      free_same (columns_in (columns_form options name is_pair) row)
+      ∙ ap (λ found. free_columns form row (with_width (width_in form row) found)) (chosen_same (choice_of options.field))
 
 -- ---- a name in two parts
 
@@ -55,11 +76,11 @@ unanswered_parts form r name =
     ∙ ap (λ l. l ++ (form.separator ∷ ((form.empty ++ error_field form name) ++ row_ending (line_of r)))) (sym (body_of_row r.body.now r.returns r.bare))
 
 -- a row with the answers to its cell, which are put beside it
-pub puts_cell : {S : Type 0} (form : Form) (answer : Option ℕ → Answer) (said : Result Said RowFault) (line held held' after : List ℕ) (index : ℕ) (taken : S → Option (List ℕ)) (failed : S → Bool) (x y : S)
-    → said ≡ Ok (Index index) → after ≡ error_field form [] → PutsBeside taken failed (answer (Some index)) form.separator after line held held' x y
-    → PutsCell taken failed (λ s. answer_said form answer s line said) line held held' x y
+pub puts_cell : {S : Type 0} (form : Form) (answer : Option ℕ → Answer) (said : Result RowCell RowFault) (line held held' after : List ℕ) (index : ℕ) (taken : S → Option (List ℕ)) (failed : S → Bool) (x y : S)
+    → said ≡ Ok (Index index) → after ≡ error_field form [] → PutsBeside taken failed (answer (Some index)) form.separator form.quoted_answers after line held held' x y
+    → PutsCell taken failed (λ s. answer_to_cell form answer s line said) line held held' x y
 puts_cell form answer said line held held' after index taken failed x y says is puts = record {
   text = answered_with form line puts.text;
   is = λ s. rw (says, puts.is) refl;
-  moves = subst (λ l. Moves taken failed (held ++ rows_with form.separator l line puts.text) held' x y) is puts.moves;
+  moves = subst (λ l. Moves taken failed (held ++ rows_with form.separator form.quoted_answers l line puts.text) held' x y) is puts.moves;
 }

@@ -17,19 +17,19 @@ use Rattle.h3_rows.specs.Answering.{PutsPlain, held_of, state_of}
 use Rattle.h3_rows.specs.Lanes.{IsOneLine}
 use Rattle.h3_rows.specs.Plain.{IsPlainField, IsPlainRow}
 use Rattle.h3_rows.specs.Row.{field_text, is_empty_row, next_number, read_of, returns_of, row_body, unmarked, unquoted}
-use Rattle.h3_rows.specs.RowsAnswer.{Form, Step, answered_with, goes_on, malformed, row_said, row_step, row_with, rows_then, text_said}
-use Rattle.h3_lines.specs.Pieces.{CutsAt, pieces_of}
-use Rattle.h3_rows.specs.declared.said.Said.TheVariants.{Index}
+use Rattle.h3_rows.specs.RowsAnswer.{Form, Step, answered_with, goes_on, malformed, row_cell, row_step, row_with, rows_then, rows_with, text_cell}
+use Rattle.h3_lines.specs.Pieces.{CutsAt, Uncut, inside_after, pieces_of}
+use Rattle.h3_rows.specs.declared.row_cell.RowCell.TheVariants.{Index}
 use Rattle.h3_rows.specs.declared.state.Columns.{Columns}
 use Rattle.h3_rows.specs.declared.state.RowState.{RowState}
-use Rattle.h3_rows.proofs.Beside.{first_with, last_with}
+use Rattle.h3_rows.proofs.Beside.{closed_before, one_with}
 use Rattle.h3_rows.proofs.Blanks.{other_last}
-use Rattle.h3_lines.specs.PiecesLaws.{cut_at_mark, uncut_none}
+use Rattle.h3_lines.specs.PiecesLaws.{cut_at_mark}
 use Rattle.h3_rows.proofs.WholeFields.{feedless_uncut, row_bare, row_feeds, row_returnless, row_sound, row_uncut}
 use Rattle.h3_rows.proofs.Marks.{later_mark, later_unmarked}
 use Rattle.h3_rows.proofs.Returns.{body_of_row, returns_of_row, row_length}
 use Rattle.h3_rows.proofs.Steps.{passed_is}
-use Rattle.h3_rows.proofs.Texts.{text_said_parsed}
+use Rattle.h3_rows.proofs.Texts.{text_cell_parsed}
 
 -- ---- digits are no blanks and no quotes
 
@@ -104,8 +104,8 @@ module _ (form : Form) (answer : Option ℕ → Answer) (s : RowState) (k : Colu
         let small : nat_lt 1114111 (length line) ≡ false = grind (arith, nat_tests) in
         rw (body, read, short, small, row_returnless form.quotes row p.whole.on_line, row_sound form.separator form.quotes row p.whole) refl
 
-    said : (index : ℕ) → IsPlainField form.quotes field index → row_said form s.number k row ≡ Ok (Index index)
-    said index plain = rw (read, p.as_wide, p.field_is) (ap text_said plain.text_is ∙ sym (text_said_parsed plain.text index plain.parses))
+    said : (index : ℕ) → IsPlainField form.quotes field index → row_cell form s.number k row ≡ Ok (Index index)
+    said index plain = rw (read, p.as_wide, p.field_is) (ap text_cell plain.text_is ∙ sym (text_cell_parsed plain.text index plain.parses))
 
     steps : (index : ℕ) (text : List ℕ) → IsPlainField form.quotes field index → answer (Some index) ≡ written text
         → row_step form answer (state_of s held) (line, false)
@@ -116,26 +116,26 @@ module _ (form : Form) (answer : Option ℕ → Answer) (s : RowState) (k : Colu
         let bare : unmarked s.number line ≡ line = later_unmarked s.number line not_first in
         rw (known, sound, bare, body, filled, later_mark s.number row not_first, said index plain, is) refl
 
-    one_row : (text : List ℕ) (l : IsOneLine text) → answered_with form line text
+    one_row : (text : List ℕ) (l : IsOneLine text) → inside_after form.quoted_answers false text ≡ false → answered_with form line text
         ≡ row ++ (form.separator ∷ (l.line ++ (replicate n 13 ++ 10 ∷ [])))
-    one_row text l =
-        let cuts : CutsAt 10 false false text l.line [] = record { begins = feedless_uncut l.line l.whole; split = l.split } in
+    one_row text l closed =
+        let within : inside_after form.quoted_answers false l.line ≡ false = closed_before form.quoted_answers l.line (rw l.split at closed) in
+        let whole : Uncut 10 form.quoted_answers false l.line false = record { uncut = feedless_uncut form.quoted_answers false l.line l.whole; inside_is = within } in
         let ends : returns_of line ≡ replicate n 13 = returns_of_row row n (row_bare row p.whole.on_line) in
         let with : row_with form.separator line (l.line ++ [])
         ≡ row ++ (form.separator ∷ (l.line ++ (replicate n 13 ++ 10 ∷ [])))
         = ap (λ t. row_with form.separator line t) (append-nil l.line) ∙ rw (body, ends) refl in
-        rw silent (first_with form.separator [] line text l.line [] cuts
-        ∙ ap (λ r. row_with form.separator line (l.line ++ []) ++ r)
-        (last_with form.separator [] line [] false (uncut_none 10 false false))
-        ∙ append-nil (row_with form.separator line (l.line ++ []))
+        rw silent (ap (rows_with form.separator form.quoted_answers [] line) l.split
+        ∙ one_with form.separator form.quoted_answers [] line l.line whole
         ∙ with)
 
   pub puts_plain : (bytes row field held held' text : List ℕ) (n index : ℕ)
       → IsPlainRow form.separator form.quotes k bytes row n field → IsPlainField form.quotes field index
       → length row ≤ 32768 → 0 < length row → answer (Some index) ≡ written text → (l : IsOneLine text)
+      → inside_after form.quoted_answers false text ≡ false
       → held' ≡ (held ++ (row ++ form.separator ∷ [])) ++ (l.line ++ (replicate n 13 ++ 10 ∷ []))
       → PutsPlain form answer s bytes held held' (length row + n) n
-  puts_plain bytes row field held held' text n index p plain few some is l put =
+  puts_plain bytes row field held held' text n index p plain few some is l closed put =
       let line = row ++ replicate n 13 in
       let answered = l.line ++ (replicate n 13 ++ 10 ∷ []) in
       record {
@@ -150,7 +150,7 @@ module _ (form : Form) (answer : Option ℕ → Answer) (s : RowState) (k : Colu
         is = steps bytes row field held n p some few index text plain is;
         put = put ∙ append_assoc held (row ++ form.separator ∷ []) answered
             ∙ ap (λ l. held ++ l) (append_assoc row (form.separator ∷ []) answered
-            ∙ sym (one_row bytes row field held n p some few text l));
+            ∙ sym (one_row bytes row field held n p some few text l closed));
       }
 
 -- the bytes before a line feed at their end

@@ -16,10 +16,10 @@ use Rattle.h3_lines.specs.RunError.{row_error_name}
 use Rattle.h3_rows.specs.Laws.{HeaderStands, IsWholeOrRefused, RowsGiveBack, RowsStand, RowsStandUntil, answered_so, numbered, own_lines, with_own}
 use Rattle.h3_lines.specs.Pieces.{Piece, cut, pieces_of, rows_of, turned, with_first, without_last_nothing}
 use Rattle.h3_rows.specs.Row.{is_empty_row, lacking_last, mark_of, next_number, read_of, row_body, unmarked}
-use Rattle.h3_rows.specs.RowsAnswer.{Form, State, Step, answer_said, begun_with, beside, columns_in, ends, faulty, free_columns, goes_on, header_step, header_with, malformed, marked, row_said, row_step, rows_then, unanswered}
+use Rattle.h3_rows.specs.RowsAnswer.{Form, State, Step, answer_to_cell, begun_with, beside, columns_in, ends, faulty, free_columns, goes_on, header_step, header_with, malformed, marked, row_cell, row_step, rows_then, unanswered}
 use Rattle.h3_rows.specs.declared.state.Columns.{Columns}
-use Rattle.h3_rows.specs.declared.said.Said.{Said}
-use Rattle.h3_rows.specs.declared.said.Said.TheVariants.{Index, Missing}
+use Rattle.h3_rows.specs.declared.row_cell.RowCell.{RowCell}
+use Rattle.h3_rows.specs.declared.row_cell.RowCell.TheVariants.{Index, Missing}
 use Rattle.h3_lines.specs.PiecesLaws.{first_piece}
 use Rattle.h3_rows.proofs.Marks.{next_unmarked}
 
@@ -52,7 +52,7 @@ beside_stands form s line output (Err (ending_by.FileAtRow f n e)) good = absurd
 beside_stands form s line output (Err (ending_by.FileColumn f e)) good = absurd (cc)
 beside_stands form s line output (Err (ending_by.File f e)) good = absurd (cc)
 
-said_stands : (form : Form) (answer : Option ℕ → Answer) (s : State) (line : List ℕ) (said : Result Said RowFault) → (answer_said form answer s line said).answer.ending ≡ Ok tt → StepStands (answer_said form answer s line said) s line (with_own form answer line said)
+said_stands : (form : Form) (answer : Option ℕ → Answer) (s : State) (line : List ℕ) (said : Result RowCell RowFault) → (answer_to_cell form answer s line said).answer.ending ≡ Ok tt → StepStands (answer_to_cell form answer s line said) s line (with_own form answer line said)
 said_stands form answer s line (Err fault) good = faulty_stands form s line (row_error.Bad fault) form.keeps_going refl good
 said_stands form answer s line (Ok Missing) good = record { ending = refl; output = refl; number = refl; columns = refl; pending = refl }
 said_stands form answer s line (Ok (Index index)) good = beside_stands form s line (answer (Some index)).output (answer (Some index)).ending good
@@ -76,10 +76,10 @@ row_stands form answer k s p None true known sound empty good =
     let text : own_lines form answer k (s.number, p) ≡ p.0 ++ 10 ∷ [] = rw empty refl in
     subst (λ x. StepStands x s p.0 (own_lines form answer k (s.number, p))) (sym is) (subst (λ l. StepStands (goes_on s p.0 (p.0 ++ 10 ∷ [])) s p.0 l) (sym text) (record { ending = refl; output = refl; number = refl; columns = refl; pending = refl }))
 row_stands form answer k s p None false known sound empty good =
-    let said = row_said form s.number k (row_body p.0) in
+    let said = row_cell form s.number k (row_body p.0) in
     let mark = mark_of s.number (row_body p.0) in
     let line = unmarked s.number p.0 in
-    let step = answer_said form answer s line said in
+    let step = answer_to_cell form answer s line said in
     let is : row_step form answer s p ≡ marked mark step = rw (sound, empty, known) refl in
     let text : own_lines form answer k (s.number, p) ≡ mark ++ with_own form answer line said = rw empty refl in
     let stands = marked_stands mark step s line p.0 (with_own form answer line said) (next_unmarked s.number p.0)
@@ -114,8 +114,8 @@ beside_silent form s line a by (inr (e, is)) none bad =
     let silent : (faulty form s line (row_error.Call e)).answer.ending ≡ Err by → (faulty form s line (row_error.Call e)).answer.output ≡ [] = faulty_silent form s line (row_error.Call e) form.keeps_going by refl none in
     rw is (silent (rw is at bad))
 
-said_silent : (form : Form) (answer : Option ℕ → Answer) (s : State) (line : List ℕ) (said : Result Said RowFault) (by : AnswerError) → ((index : Option ℕ) → IsWholeOrRefused (answer index)) → s.pending ≡ []
-    → (answer_said form answer s line said).answer.ending ≡ Err by → (answer_said form answer s line said).answer.output ≡ []
+said_silent : (form : Form) (answer : Option ℕ → Answer) (s : State) (line : List ℕ) (said : Result RowCell RowFault) (by : AnswerError) → ((index : Option ℕ) → IsWholeOrRefused (answer index)) → s.pending ≡ []
+    → (answer_to_cell form answer s line said).answer.ending ≡ Err by → (answer_to_cell form answer s line said).answer.output ≡ []
 said_silent form answer s line (Err fault) by refuses none bad = faulty_silent form s line (row_error.Bad fault) form.keeps_going by refl none bad
 said_silent form answer s line (Ok Missing) by refuses none bad = absurd (cc)
 said_silent form answer s line (Ok (Index index)) by refuses none bad = beside_silent form s line (answer (Some index)) by (refuses (Some index)) none bad
@@ -125,9 +125,9 @@ row_silent : (form : Form) (answer : Option ℕ → Answer) (k : Columns) (s : S
 row_silent form answer k s p (Some fault) e by refuses known none fails empty bad = rw fails none
 row_silent form answer k s p None true by refuses known none sound empty bad = absurd (let stops : (let r : Result (Unit {0}) AnswerError = Ok tt in r) ≡ Err by = rw (sound, empty, known) at bad in cc)
 row_silent form answer k s p None false by refuses known none sound empty bad =
-    let said = row_said form s.number k (row_body p.0) in
+    let said = row_cell form s.number k (row_body p.0) in
     let line = unmarked s.number p.0 in
-    let step = answer_said form answer s line said in
+    let step = answer_to_cell form answer s line said in
     let is : row_step form answer s p ≡ marked (mark_of s.number (row_body p.0)) step = rw (sound, empty, known) refl in
     let fails : step.answer.ending ≡ Err by = subst (λ x. x.answer.ending ≡ Err by) is bad in
     subst (λ x. x.answer.output ≡ []) (sym is) (rw fails (said_silent form answer s line said by refuses none fails))

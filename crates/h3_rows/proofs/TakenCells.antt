@@ -1,5 +1,5 @@
 -- The cells of rows that are taken to the end of a list, or to a refusal.
-use Rattle.std.proofs.Common.{◌≡◌, ℕ, ◌^◌, ◌⊎◌, Bool, true, false, List, [], ◌++◌, length, ◌≤◌, Option, None, Some, Result, Ok, Err, sym, ap, ◌∙◌, refl, subst, inl, inr, append-nil, arith}
+use Rattle.std.proofs.Common.{◌≡◌, ℕ, ◌*◌, ◌^◌, ◌⊎◌, Bool, true, false, List, [], ◌++◌, length, ◌≤◌, Option, None, Some, Result, Ok, Err, sym, ap, ◌∙◌, refl, subst, inl, inr, append-nil, arith}
 use Rattle.std.specs.Prelude.{⊤}
 use Rattle.std.specs.Io.KnownBytes.{Consumes}
 use Rattle.std.proofs.KnownBytes.{Consumes-nil}
@@ -57,8 +57,9 @@ module _ {V : Type 0} (state : V → RowOptions × RowState) (taken : V → List
       last = s.last;
       rest = s.rest;
       held = s.held;
-      told = s.told;
+      consumed = s.consumed;
       short = s.short;
+      within = s.within;
       ended = s.ended;
       unended = s.unended;
       rows = s.rows;
@@ -80,7 +81,6 @@ module _ {V : Type 0} (state : V → RowOptions × RowState) (taken : V → List
       stop = read_to (Error e) s;
       is = refused_by (cells_end (form v).choice) e s.mid s.ended s.takes (s.part ++ s.last ++ s.rest) s.refuses;
       of_row = refused_by (λ b. Ok []) e s.mid s.ended s.takes (s.part ++ s.last ++ s.rest) s.refuses;
-      within = s.within;
       known = elim s.known [
         | inl ends ↦ inl ends
         | inr known ↦ inr (λ after. refused_by (cells_end (form v).choice) e s.mid s.ended s.takes (s.part ++ s.last ++ after) (known after))
@@ -93,15 +93,16 @@ module _ {V : Type 0} (state : V → RowOptions × RowState) (taken : V → List
     stops (Fault Read) had has sound s = absurd (s.refuses.refuses (λ b. Ok []))
     stops (Fault Write) had has sound s = absurd (s.refuses.refuses (λ b. Ok []))
 
-    read_fails : (had has : Bool) → StopsReading (form v).quotes 1114111 Takes Settled v w old new (has ≡ true) (2 ^ 40) → RefusesRows (form v) old new had has (Fault Read)
+    read_fails : (had has : Bool) → StopsReading (form v).quotes 1114111 Takes Settled v w old new (has ≡ true) (2 ^ 40) 65536 → RefusesRows (form v) old new had has (Fault Read)
     read_fails had has s = (
       record {
         part = s.part;
         last = [];
         rest = s.rest;
         held = subst (λ l. HasLeft old (l ++ s.rest)) (sym (append-nil s.part)) s.held;
-        told = subst (Consumes old new) (sym (append-nil s.part)) s.told;
+        consumed = subst (Consumes old new) (sym (append-nil s.part)) s.consumed;
         short = omega arith;
+        within = subst (λ l. length l ≤ 2 ^ 40 * 65536) (sym (append-nil s.part)) s.within;
         ended = s.ended;
         unended = s.last;
         rows = s.rows;
@@ -113,7 +114,7 @@ module _ {V : Type 0} (state : V → RowOptions × RowState) (taken : V → List
     )
 
     pub refused_early : (had has : Bool) (e : RunError)
-        → ((e ≡ Fault Read) × StopsReading (form v).quotes 1114111 Takes Settled v w old new (has ≡ true) (2 ^ 40)) ⊎ (StopsTaking (form v).quotes (rows_of (form v).quotes) 1114111 Takes Refuses Settled v w e old new (2 ^ 40) 65536 × (has ≡ had)) → RefusesRows (form v) old new had has e
+        → ((e ≡ Fault Read) × StopsReading (form v).quotes 1114111 Takes Settled v w old new (has ≡ true) (2 ^ 40) 65536) ⊎ (StopsTaking (form v).quotes (rows_of (form v).quotes) 1114111 Takes Refuses Settled v w e old new (2 ^ 40) 65536 × (has ≡ had)) → RefusesRows (form v) old new had has e
     refused_early had has e (inr (s, kept)) = stops e had has kept s
     refused_early had has (Fault Read) (inl (is, s)) = read_fails had has s
     refused_early had has (Fault Write) (inl (is, s)) = absurd (cc is)
@@ -122,12 +123,12 @@ module _ {V : Type 0} (state : V → RowOptions × RowState) (taken : V → List
 
     -- all rows are read, and none is faulty
     pub read_all : (t : TakesAll (rows_of (form v).quotes) Takes v w old new (2 ^ 40) 65536) → cells_end (form v).choice (state w).1.columns ≡ Ok [] → AllRowsRead (form v) (Ok t.takes.0) old new
-    read_all t good = record { list = t.bytes; held = t.held; told = t.told; within = t.within; is = whole t ∙ ap (cells_before t.takes.0) good ∙ ap Ok (append-nil t.takes.0) }
+    read_all t good = record { list = t.bytes; held = t.held; consumed = t.consumed; within = t.within; is = whole t ∙ ap (cells_before t.takes.0) good ∙ ap Ok (append-nil t.takes.0) }
 
     -- all rows are read, and the header did not come
     pub read_none : (t : TakesAll (rows_of (form v).quotes) Takes v w old new (2 ^ 40) 65536) (e : AnswerError) → cells_end (form v).choice (state w).1.columns ≡ Err e → RefusesRowsAtEnd (form v) e old new
     read_none t e missed = record {
-      read = record { list = t.bytes; held = t.held; told = t.told; within = t.within; is = whole t ∙ ap (cells_before t.takes.0) missed };
+      read = record { list = t.bytes; held = t.held; consumed = t.consumed; within = t.within; is = whole t ∙ ap (cells_before t.takes.0) missed };
       cells = t.takes.0 ++ [];
       good = no_error w (rows_of (form v).quotes t.bytes) t.takes;
     }
@@ -136,7 +137,7 @@ module _ {V : Type 0} (state : V → RowOptions × RowState) (taken : V → List
 pub no_memory : (form : Form) (old : Option (List ℕ)) (had : Bool) → RefusesRows form old old had had (Fault Memory)
 no_memory form old had =
     let (rest, held) = some_held old in
-    (refl, record { part = []; last = []; rest = rest; held = held; told = Consumes-nil old; short = omega arith; ended = []; unended = ([], false); rows = refl; begun = omega arith; cells = []; good = refl })
+    (refl, record { part = []; last = []; rest = rest; held = held; consumed = Consumes-nil old; short = omega arith; within = omega arith; ended = []; unended = ([], false); rows = refl; begun = omega arith; cells = []; good = refl })
 
 -- the same of what the source is then
 pub refused_at : {R : Type 0} (left : R → Option (List ℕ)) (failed : R → Bool) (after x : R) (form : Form) (old : Option (List ℕ)) (had : Bool) (e : RunError) → x ≡ after

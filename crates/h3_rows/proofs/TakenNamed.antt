@@ -1,5 +1,5 @@
 -- The cells of a table with their names that are taken to the end of a list, or to a refusal.
-use Rattle.std.proofs.Common.{◌≡◌, ℕ, ◌^◌, ◌⊎◌, Bool, true, false, List, [], ◌++◌, length, ◌≤◌, Option, None, Some, Result, Ok, Err, sym, ap, ◌∙◌, refl, subst, inl, inr, append-nil, arith}
+use Rattle.std.proofs.Common.{◌≡◌, ℕ, ◌*◌, ◌^◌, ◌⊎◌, Bool, true, false, List, [], ◌++◌, length, ◌≤◌, Option, None, Some, Result, Ok, Err, sym, ap, ◌∙◌, refl, subst, inl, inr, append-nil, arith}
 use Rattle.std.specs.Prelude.{⊤}
 use Rattle.std.specs.Io.KnownBytes.{Consumes}
 use Rattle.std.proofs.KnownBytes.{Consumes-nil}
@@ -15,7 +15,7 @@ use Rattle.h3_lines.specs.TakingLaws.{have_all, refuses_after}
 use Rattle.h3_rows.specs.Named.{AllNamedRead, Entry, NamedReadTo, RefusesNamed, RefusesNamedAtEnd, RefusesNamedInPage, Table, begun_named, named_cells, named_end, named_then, table_first, table_of}
 use Rattle.h3_rows.specs.NamedIn.{named_in}
 use Rattle.h3_rows.specs.declared.table.TableColumns.{TableColumns}
-use Rattle.h3_rows.specs.declared.table.TableOptions.{TableOptions}
+use Rattle.h3_requests.specs.declared.rows.TableOptions.{TableOptions}
 use Rattle.h3_rows.specs.declared.table.TableState.{TableState}
 
 -- some bytes are held
@@ -54,8 +54,9 @@ module _ {V : Type 0} (state : V → TableOptions × TableState) (taken : V → 
       last = s.last;
       rest = s.rest;
       held = s.held;
-      told = s.told;
+      consumed = s.consumed;
       short = s.short;
+      within = s.within;
       ended = s.ended;
       unended = s.unended;
       rows = s.rows;
@@ -77,7 +78,6 @@ module _ {V : Type 0} (state : V → TableOptions × TableState) (taken : V → 
       stop = read_to (Error e) s;
       is = refused_by (named_end (table v)) e s.mid s.ended s.takes (s.part ++ s.last ++ s.rest) s.refuses;
       of_row = refused_by (λ b. Ok []) e s.mid s.ended s.takes (s.part ++ s.last ++ s.rest) s.refuses;
-      within = s.within;
       known = elim s.known [
         | inl ends ↦ inl ends
         | inr known ↦ inr (λ after. refused_by (named_end (table v)) e s.mid s.ended s.takes (s.part ++ s.last ++ after) (known after))
@@ -90,15 +90,16 @@ module _ {V : Type 0} (state : V → TableOptions × TableState) (taken : V → 
     stops (Fault Read) had has sound s = absurd (s.refuses.refuses (λ b. Ok []))
     stops (Fault Write) had has sound s = absurd (s.refuses.refuses (λ b. Ok []))
 
-    read_fails : (had has : Bool) → StopsReading (table v).form.quotes 1114111 Takes Settled v w old new (has ≡ true) (2 ^ 40) → RefusesNamed (table v) old new had has (Fault Read)
+    read_fails : (had has : Bool) → StopsReading (table v).form.quotes 1114111 Takes Settled v w old new (has ≡ true) (2 ^ 40) 65536 → RefusesNamed (table v) old new had has (Fault Read)
     read_fails had has s = (
       record {
         part = s.part;
         last = [];
         rest = s.rest;
         held = subst (λ l. HasLeft old (l ++ s.rest)) (sym (append-nil s.part)) s.held;
-        told = subst (Consumes old new) (sym (append-nil s.part)) s.told;
+        consumed = subst (Consumes old new) (sym (append-nil s.part)) s.consumed;
         short = omega arith;
+        within = subst (λ l. length l ≤ 2 ^ 40 * 65536) (sym (append-nil s.part)) s.within;
         ended = s.ended;
         unended = s.last;
         rows = s.rows;
@@ -110,7 +111,7 @@ module _ {V : Type 0} (state : V → TableOptions × TableState) (taken : V → 
     )
 
     pub refused_early : (had has : Bool) (e : RunError)
-        → ((e ≡ Fault Read) × StopsReading (table v).form.quotes 1114111 Takes Settled v w old new (has ≡ true) (2 ^ 40)) ⊎ (StopsTaking (table v).form.quotes (rows_of (table v).form.quotes) 1114111 Takes Refuses Settled v w e old new (2 ^ 40) 65536 × (has ≡ had)) → RefusesNamed (table v) old new had has e
+        → ((e ≡ Fault Read) × StopsReading (table v).form.quotes 1114111 Takes Settled v w old new (has ≡ true) (2 ^ 40) 65536) ⊎ (StopsTaking (table v).form.quotes (rows_of (table v).form.quotes) 1114111 Takes Refuses Settled v w e old new (2 ^ 40) 65536 × (has ≡ had)) → RefusesNamed (table v) old new had has e
     refused_early had has e (inr (s, kept)) = stops e had has kept s
     refused_early had has (Fault Read) (inl (is, s)) = read_fails had has s
     refused_early had has (Fault Write) (inl (is, s)) = absurd (cc is)
@@ -119,12 +120,12 @@ module _ {V : Type 0} (state : V → TableOptions × TableState) (taken : V → 
 
     -- all rows are read, and none is faulty
     pub read_all : (t : TakesAll (rows_of (table v).form.quotes) Takes v w old new (2 ^ 40) 65536) → named_end (table v) (state w).1.columns ≡ Ok [] → AllNamedRead (table v) (Ok t.takes.0) old new
-    read_all t good = record { list = t.bytes; held = t.held; told = t.told; within = t.within; is = whole t ∙ ap (cells_before t.takes.0) good ∙ ap Ok (append-nil t.takes.0) }
+    read_all t good = record { list = t.bytes; held = t.held; consumed = t.consumed; within = t.within; is = whole t ∙ ap (cells_before t.takes.0) good ∙ ap Ok (append-nil t.takes.0) }
 
     -- all rows are read, and the header did not come
     pub read_none : (t : TakesAll (rows_of (table v).form.quotes) Takes v w old new (2 ^ 40) 65536) (e : AnswerError) → named_end (table v) (state w).1.columns ≡ Err e → RefusesNamedAtEnd (table v) e old new
     read_none t e missed = record {
-      read = record { list = t.bytes; held = t.held; told = t.told; within = t.within; is = whole t ∙ ap (cells_before t.takes.0) missed };
+      read = record { list = t.bytes; held = t.held; consumed = t.consumed; within = t.within; is = whole t ∙ ap (cells_before t.takes.0) missed };
       entries = t.takes.0 ++ [];
       good = no_error w (rows_of (table v).form.quotes t.bytes) t.takes;
     }
@@ -133,7 +134,7 @@ module _ {V : Type 0} (state : V → TableOptions × TableState) (taken : V → 
 pub no_memory : (table : Table) (old : Option (List ℕ)) (had : Bool) → RefusesNamed table old old had had (Fault Memory)
 no_memory table old had =
     let (rest, held) = some_held old in
-    (refl, record { part = []; last = []; rest = rest; held = held; told = Consumes-nil old; short = omega arith; ended = []; unended = ([], false); rows = refl; begun = omega arith; entries = []; good = refl })
+    (refl, record { part = []; last = []; rest = rest; held = held; consumed = Consumes-nil old; short = omega arith; within = omega arith; ended = []; unended = ([], false); rows = refl; begun = omega arith; entries = []; good = refl })
 
 -- the same of what the source is then
 pub refused_at : {R : Type 0} (left : R → Option (List ℕ)) (failed : R → Bool) (after x : R) (table : Table) (old : Option (List ℕ)) (had : Bool) (e : RunError) → x ≡ after

@@ -258,8 +258,8 @@ pub row_sound : (separator : ℕ) (quotes : Bool) (bytes : List ℕ) → IsWhole
 row_sound separator true bytes w = rw (w.sound refl) refl
 row_sound separator false bytes w = refl
 
-pub feedless_uncut : (bytes : List ℕ) → list_all (λ b. not (is_byte 10 b)) bytes ≡ true → Uncut 10 false false bytes false
-feedless_uncut [] h = uncut_none 10 false false
-feedless_uncut (b ∷ bs) h =
+pub feedless_uncut : (quotes inside : Bool) (bytes : List ℕ) → list_all (λ b. not (is_byte 10 b)) bytes ≡ true → is_uncut 10 quotes inside bytes ≡ true
+feedless_uncut quotes inside [] h = refl
+feedless_uncut quotes inside (b ∷ bs) h =
     let (f, more) = both (b == 10) (list_all (λ b. not (is_byte 10 b)) bs) h in
-    uncut_byte 10 false false b bs f refl (feedless_uncut bs more)
+    rw f (feedless_uncut quotes (turned quotes inside b) bs more)

@@ -19,10 +19,10 @@ use Rattle.h3_lines.specs.declared.run_error.RunError.TheVariants.{Error, Fault}
 use Rattle.h3_lines.specs.Pieces.{Piece, pieces_of, rows_of}
 use Rattle.h3_lines.specs.Taking.{cell_list, cells_before}
 use Rattle.h3_rows.specs.Row.{is_empty_row, next_number, read_of, row_body}
-use Rattle.h3_rows.specs.RowsAnswer.{After, Choice, Form, Named, columns_first, columns_in, malformed, row_said}
+use Rattle.h3_rows.specs.RowsAnswer.{After, Choice, Form, Named, columns_first, columns_in, malformed, row_cell}
 use Rattle.h3_rows.specs.declared.state.Columns.{Columns}
-use Rattle.h3_rows.specs.declared.said.Said.{Said}
-use Rattle.h3_rows.specs.declared.said.Said.TheVariants.{Index, Missing}
+use Rattle.h3_rows.specs.declared.row_cell.RowCell.{RowCell}
+use Rattle.h3_rows.specs.declared.row_cell.RowCell.TheVariants.{Index, Missing}
 
 -- ---- the cell of a row
 
@@ -31,12 +31,12 @@ abbrev pub called : {A : Type 0} → Result A H3Error → Result A RowError
 called (Ok value) = Ok value
 called (Err e) = Err (row_error.Call e)
 
--- cell_said read: the cell of a row by what is read of its field: none if it is missing, and an error if the row is
+-- cell_read read: the cell of a row by what is read of its field: none if it is missing, and an error if the row is
 -- faulty, or its index is not a valid cell
-abbrev pub cell_said : Result Said RowFault → Result (Option Address) RowError
-cell_said (Err fault) = Err (row_error.Bad fault)
-cell_said (Ok Missing) = Ok None
-cell_said (Ok (Index index)) = called (said_by_index (Some index))
+abbrev pub cell_read : Result RowCell RowFault → Result (Option Address) RowError
+cell_read (Err fault) = Err (row_error.Bad fault)
+cell_read (Ok Missing) = Ok None
+cell_read (Ok (Index index)) = called (said_by_index (Some index))
 
 -- at_row n cell: the cell, or its error at the row with this number
 abbrev pub at_row : ℕ → Result (Option Address) RowError → Result (List Address) AnswerError
@@ -56,7 +56,7 @@ header_found (Err e) = record { cells = Err (ending_by.Column e); columns = None
 -- filled_found form n line columns: what a row that is not empty has
 abbrev pub filled_found : Form → ℕ → List ℕ → Option Columns → Found
 filled_found form n line None = header_found (columns_in form (read_of n (row_body line)))
-filled_found form n line (Some columns) = record { cells = at_row n (cell_said (row_said form n columns (row_body line))); columns = Some columns }
+filled_found form n line (Some columns) = record { cells = at_row n (cell_read (row_cell form n columns (row_body line))); columns = Some columns }
 
 -- found_unless fault form n columns line: what a row has that is malformed for this reason, or is not
 abbrev pub found_unless : Option RowFault → Form → ℕ → Option Columns → List ℕ → Found
@@ -101,19 +101,20 @@ begun_cells form rows = cells_then (λ columns. Ok []) form 1 (columns_first for
 pub record AllRowsRead (form : Form) (cells : Result (List Address) AnswerError) (old new : Option (List ℕ)) : Type 0 where
   pub list : List ℕ
   pub held : HasLeft old list
-  pub told : Consumes old new list
+  pub consumed : Consumes old new list
   pub within : IsWithinReads (2 ^ 40) 65536 list
   pub is : cells_of form (rows_of form.quotes list) ≡ cells
 
--- RowsReadTo: a part of a list is read, and then at most so many bytes more; the rows that end in the part have no
--- error, and the one that does not has at most 1,114,111 bytes in it
+-- RowsReadTo: a part of a list is read, and then at most so many bytes more, in reads that may be made; the rows that end
+-- in the part have no error, and the one that does not has at most 1,114,111 bytes in it
 pub record RowsReadTo (form : Form) (most : ℕ) (old new : Option (List ℕ)) : Type 0 where
   pub part : List ℕ
   pub last : List ℕ
   pub rest : List ℕ
   pub held : HasLeft old (part ++ last ++ rest)
-  pub told : Consumes old new (part ++ last)
+  pub consumed : Consumes old new (part ++ last)
   pub short : length last ≤ most
+  pub within : length (part ++ last) ≤ 2 ^ 40 * 65536
   pub ended : List Piece
   pub unended : Piece
   pub rows : pieces_of form.quotes part ≡ ended ++ unended ∷ []
@@ -127,13 +128,12 @@ pub record RefusesRowsAtEnd (form : Form) (e : AnswerError) (old new : Option (L
   pub cells : List Address
   pub good : begun_cells form (rows_of form.quotes read.list) ≡ Ok cells
 
--- RefusesRowsInPage form e: a row of a list has this error, and at most a page is read beyond rows without one, in reads
--- that may be made; the list ends within the reads that may be made, or each that begins with what is read has the error
+-- RefusesRowsInPage form e: a row of a list has this error, and at most a page is read beyond rows without one; the list
+-- ends within the reads that may be made, or each that begins with what is read has the error
 pub record RefusesRowsInPage (form : Form) (e : AnswerError) (old new : Option (List ℕ)) : Type 0 where
   pub stop : RowsReadTo form 65536 old new
   pub is : cells_of form (rows_of form.quotes (stop.part ++ stop.last ++ stop.rest)) ≡ Err e
   pub of_row : begun_cells form (rows_of form.quotes (stop.part ++ stop.last ++ stop.rest)) ≡ Err e
-  pub within : length (stop.part ++ stop.last) ≤ 2 ^ 40 * 65536
   pub known : IsWithinReads (2 ^ 40) 65536 (stop.part ++ stop.last ++ stop.rest)
       ⊎ ((after : List ℕ) → cells_of form (rows_of form.quotes (stop.part ++ stop.last ++ after)) ≡ Err e)
 

@@ -25,25 +25,25 @@ twice index = written (codes "x" ++ 10 ∷ codes "y" ++ 10 ∷ [])
 
 -- tabs between fields, with the cell after so many others
 abbrev tabs : ℕ → Form
-tabs before = record { separator = 9; quotes = false; choice = After before; has_header = false; names = codes "new" ∷ []; empty = []; keeps_going = false; shows_errors = false; is_ragged = false }
+tabs before = record { separator = 9; quotes = false; choice = After before; has_header = false; names = codes "new" ∷ []; empty = []; quoted_answers = false; keeps_going = false; shows_errors = false; is_ragged = false }
 
 abbrev commas : ℕ → Form
-commas before = record { separator = 44; quotes = true; choice = After before; has_header = false; names = codes "new" ∷ []; empty = []; keeps_going = false; shows_errors = false; is_ragged = false }
+commas before = record { separator = 44; quotes = true; choice = After before; has_header = false; names = codes "new" ∷ []; empty = []; quoted_answers = false; keeps_going = false; shows_errors = false; is_ragged = false }
 
 -- quotes count, and the cell is in a column
 abbrev column : List ℕ → Form
-column cell = record { separator = 44; quotes = true; choice = Named cell; has_header = true; names = codes "cellToParent" ∷ []; empty = []; keeps_going = false; shows_errors = false; is_ragged = false }
+column cell = record { separator = 44; quotes = true; choice = Named cell; has_header = true; names = codes "cellToParent" ∷ []; empty = []; quoted_answers = false; keeps_going = false; shows_errors = false; is_ragged = false }
 
 -- a header, and the cell in the first field
 abbrev headed : Form
-headed = record { separator = 9; quotes = false; choice = After 0; has_header = true; names = codes "new" ∷ []; empty = []; keeps_going = false; shows_errors = false; is_ragged = false }
+headed = record { separator = 9; quotes = false; choice = After 0; has_header = true; names = codes "new" ∷ []; empty = []; quoted_answers = false; keeps_going = false; shows_errors = false; is_ragged = false }
 
 -- runs that go on
 abbrev going_on : Form
-going_on = record { separator = 9; quotes = false; choice = After 0; has_header = false; names = codes "new" ∷ []; empty = []; keeps_going = true; shows_errors = false; is_ragged = false }
+going_on = record { separator = 9; quotes = false; choice = After 0; has_header = false; names = codes "new" ∷ []; empty = []; quoted_answers = false; keeps_going = true; shows_errors = false; is_ragged = false }
 
 abbrev quoted_going_on : Form
-quoted_going_on = record { separator = 44; quotes = true; choice = After 0; has_header = false; names = codes "new" ∷ []; empty = []; keeps_going = true; shows_errors = false; is_ragged = false }
+quoted_going_on = record { separator = 44; quotes = true; choice = After 0; has_header = false; names = codes "new" ∷ []; empty = []; quoted_answers = false; keeps_going = true; shows_errors = false; is_ragged = false }
 
 -- ---- rows with their answers
 
@@ -87,13 +87,13 @@ kept_rows : list_answer going_on name (codes "xyz" ++ 10 ∷ codes "8" ++ 10 ∷
 unfolding parsed_index
 kept_rows = refl
 
--- a malformed row ends also a run that goes on, and its own line is told
+-- a malformed row ends also a run that goes on, and its own line is reported
 malformed_kept : list_answer quoted_going_on name (codes "x" ++ 10 ∷ codes "5" ++ 34 ∷ codes " pipe" ++ 10 ∷ []) ≡ record { output = codes "x," ++ 10 ∷ []; ending = Err (AtRow 2 (Bad OpenQuote)) }
 unfolding parsed_index
 malformed_kept = refl
 
 -- a function answers an index; a missing cell has an empty answer
-validity : list_answer (record { separator = 44; quotes = false; choice = After 0; has_header = false; names = [] ∷ []; empty = []; keeps_going = false; shows_errors = false; is_ragged = false }) truth (codes "85283473fffffff,1" ++ 10 ∷ codes ",3" ++ 10 ∷ [])
+validity : list_answer (record { separator = 44; quotes = false; choice = After 0; has_header = false; names = [] ∷ []; empty = []; quoted_answers = false; keeps_going = false; shows_errors = false; is_ragged = false }) truth (codes "85283473fffffff,1" ++ 10 ∷ codes ",3" ++ 10 ∷ [])
     ≡ written (codes "85283473fffffff,1,true" ++ 10 ∷ codes ",3," ++ 10 ∷ [])
 unfolding parsed_index
 validity = refl
@@ -180,7 +180,7 @@ ringed (Some n) = written (codes "x" ++ 9 ∷ codes "0" ++ 10 ∷ codes "y" ++ 9
 
 -- tabs, with the cell in the first field
 abbrev pairs : List (List ℕ) → Bool → Bool → Form
-pairs names headed goes_on = record { separator = 9; quotes = false; choice = After 0; has_header = headed; names = names; empty = empty_answer true 9; keeps_going = goes_on; shows_errors = false; is_ragged = false }
+pairs names headed goes_on = record { separator = 9; quotes = false; choice = After 0; has_header = headed; names = names; empty = empty_answer true 9; quoted_answers = false; keeps_going = goes_on; shows_errors = false; is_ragged = false }
 
 -- a header gets two names, and a missing cell two empty parts
 two_columns : list_answer (pairs (answer_names true None []) true false) ringed (codes "c" ++ 9 ∷ codes "p" ++ 10 ∷ codes "5" ++ 9 ∷ codes "q" ++ 13 ∷ 10 ∷ 9 ∷ codes "q" ++ 10 ∷ 10 ∷ [])
@@ -225,7 +225,32 @@ name_in_use : list_answer (column (codes "cell")) name (codes "cell, cellToParen
 name_in_use = refl
 
 -- the names of errors have a column
-error_column : list_answer (record { separator = 9; quotes = false; choice = After 0; has_header = false; names = []; empty = []; keeps_going = true; shows_errors = true; is_ragged = false }) name (codes "8" ++ 10 ∷ codes "xyz" ++ 10 ∷ 32 ∷ 10 ∷ [])
+error_column : list_answer (record { separator = 9; quotes = false; choice = After 0; has_header = false; names = []; empty = []; quoted_answers = false; keeps_going = true; shows_errors = true; is_ragged = false }) name (codes "8" ++ 10 ∷ codes "xyz" ++ 10 ∷ 32 ∷ 10 ∷ [])
     ≡ record { output = codes "8" ++ 9 ∷ codes "five" ++ 9 ∷ 10 ∷ codes "xyz" ++ 9 ∷ 9 ∷ codes "E_FAILED" ++ 10 ∷ 32 ∷ 9 ∷ 9 ∷ codes "missing" ++ 10 ∷ []; ending = Err (AtRowAndMore 2 (Bad NotAnIndex) 0) }
 unfolding parsed_index
 error_column = refl
+
+-- ---- texts
+
+-- a function that answers by a text with a line feed between its quotes
+abbrev text : Option ℕ → Answer
+text index = written (34 ∷ codes "a" ++ 10 ∷ codes "b" ++ 34 ∷ 10 ∷ [])
+
+abbrev texts : Bool → Form
+texts quoted = record { separator = 44; quotes = true; choice = After 0; has_header = false; names = []; empty = []; quoted_answers = quoted; keeps_going = false; shows_errors = false; is_ragged = false }
+
+-- its row stands once if quotes count in answers, and else once for each of its two lines
+text_once : list_answer (texts true) text (codes "8" ++ 13 ∷ 10 ∷ []) ≡ written (codes "8," ++ 34 ∷ codes "a" ++ 10 ∷ codes "b" ++ 34 ∷ 13 ∷ 10 ∷ [])
+unfolding parsed_index
+text_once = refl
+
+text_cut : list_answer (texts false) text (codes "8" ++ 10 ∷ []) ≡ written (codes "8," ++ 34 ∷ codes "a" ++ 10 ∷ codes "8,b" ++ 34 ∷ 10 ∷ [])
+unfolding parsed_index
+text_cut = refl
+
+-- the name of a new column has quotes, and its text is in the header already
+abbrev quoted_name : Form
+quoted_name = record { separator = 44; quotes = true; choice = After 0; has_header = true; names = (34 ∷ codes "a,b" ++ 34 ∷ []) ∷ []; empty = []; quoted_answers = true; keeps_going = false; shows_errors = false; is_ragged = false }
+
+quoted_in_use : list_answer quoted_name text (codes "cell," ++ 34 ∷ codes "a,b" ++ 34 ∷ 10 ∷ []) ≡ record { output = []; ending = Err (Column InUse) }
+quoted_in_use = refl

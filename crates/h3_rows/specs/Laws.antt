@@ -9,11 +9,12 @@ use Rattle.h3_lines.specs.declared.run_error.AnswerError.TheVariants as ending_b
 use Rattle.h3_lines.specs.declared.run_error.RowError.TheVariants as row_error
 use Rattle.h3_lines.specs.declared.run_error.RowFault.{RowFault}
 use Rattle.h3_lines.specs.Pieces.{Piece, cut, inside_after, is_uncut, pieces_of, rows_of}
-use Rattle.h3_rows.specs.Row.{is_empty_row, lacking_last, list_rows, mark_of, next_number, returns_of, row_body, row_ending, unmarked}
-use Rattle.h3_rows.specs.RowsAnswer.{Form, State, answered_with, header_with, row_said, row_step, row_with, rows_then, unanswered}
+use Rattle.h3_rows.specs.Areas.{IsOneField}
+use Rattle.h3_rows.specs.Row.{is_empty_row, lacking_last, list_rows, mark_of, next_number, quotes_are_sound, returns_of, row_body, row_ending, unmarked}
+use Rattle.h3_rows.specs.RowsAnswer.{Form, State, answered_with, header_with, row_cell, row_step, row_with, rows_then, rows_with, unanswered}
 use Rattle.h3_rows.specs.declared.state.Columns.{Columns}
-use Rattle.h3_rows.specs.declared.said.Said.{Said}
-use Rattle.h3_rows.specs.declared.said.Said.TheVariants.{Index, Missing}
+use Rattle.h3_rows.specs.declared.row_cell.RowCell.{RowCell}
+use Rattle.h3_rows.specs.declared.row_cell.RowCell.TheVariants.{Index, Missing}
 
 -- ---- each row is in the output
 
@@ -31,7 +32,7 @@ answered_so form line output (Err e) = answered_with form line output
 
 -- with_own form answer line said: the row with the answers to what it says of its cell; with an empty one if it says
 -- nothing, or is faulty
-abbrev pub with_own : Form → (Option ℕ → Answer) → List ℕ → Result Said RowFault → List ℕ
+abbrev pub with_own : Form → (Option ℕ → Answer) → List ℕ → Result RowCell RowFault → List ℕ
 with_own form answer line (Err fault) = unanswered form line (row_error_name (row_error.Bad fault))
 with_own form answer line (Ok Missing) = unanswered form line (codes "missing")
 with_own form answer line (Ok (Index index)) = answered_so form line (answer (Some index)).output (answer (Some index)).ending
@@ -42,7 +43,7 @@ abbrev pub own_lines : Form → (Option ℕ → Answer) → Columns → ℕ × P
 own_lines form answer columns r =
     if is_empty_row r.0 (row_body r.1.0) then r.1.0 ++ 10 ∷ []
     else mark_of r.0 (row_body r.1.0)
-    ++ with_own form answer (unmarked r.0 r.1.0) (row_said form r.0 columns (row_body r.1.0))
+    ++ with_own form answer (unmarked r.0 r.1.0) (row_cell form r.0 columns (row_body r.1.0))
 
 -- RowsStand: if no row ends the answer, what is written for rows after a header, or without one, is `own_lines` of each
 -- of them by its own cell alone, in order, and nothing else
@@ -104,6 +105,24 @@ PairsAreKept = (separator : ℕ) (quotes : Bool) (row a b : List ℕ) → (34 ==
 abbrev pub RowsReadBack : Type 0
 RowsReadBack = (separator : ℕ) (quotes : Bool) (line a rest : List ℕ) → (34 == separator) ≡ false → (10 == separator) ≡ false → is_uncut 10 quotes false line ≡ true → inside_after quotes false line ≡ false → is_uncut 10 quotes false a ≡ true → inside_after quotes false a ≡ false
     → rows_of quotes (row_with separator line a ++ rest) ≡ (row_body line ++ (separator ∷ (a ++ returns_of line)), false) ∷ rows_of quotes rest
+
+-- TextsStandOnce: a row stands once with a text as its answer, and with what is after it, if no line feed outside quotes is in
+-- the text and no quote in it stays open
+abbrev pub TextsStandOnce : Type 0
+TextsStandOnce = (separator : ℕ) (quotes : Bool) (after row text : List ℕ) → is_uncut 10 quotes false text ≡ true → inside_after quotes false text ≡ false
+    → rows_with separator quotes after row (text ++ 10 ∷ []) ≡ row_with separator row (text ++ after)
+
+-- TextsAreKept: the fields of a row with a text that is one field are those of the row, and then the text; so taking the
+-- column away gives the row back
+abbrev pub TextsAreKept : Type 0
+TextsAreKept = (separator : ℕ) (quotes : Bool) (row text : List ℕ) → (34 == separator) ≡ false → inside_after quotes false row ≡ false → IsOneField separator quotes text
+    → cut separator quotes false (row ++ separator ∷ text) ≡ cut separator quotes false row ++ (text, false) ∷ []
+
+-- TextsStaySound: a row whose quotes are sound, with a text beside it that no separator cuts, and whose quotes are sound and
+-- closed, is a row whose quotes are sound
+abbrev pub TextsStaySound : Type 0
+TextsStaySound = (separator : ℕ) (row text : List ℕ) → (34 == separator) ≡ false → inside_after true false row ≡ false → quotes_are_sound separator row ≡ true
+    → is_uncut separator true false text ≡ true → inside_after true false text ≡ false → quotes_are_sound separator text ≡ true → quotes_are_sound separator (row ++ separator ∷ text) ≡ true
 
 -- rows and answers of which none has a line feed outside quotes, or a quote that stays open
 abbrev pub AreRows : Bool → List (List ℕ × List ℕ) → Type 0

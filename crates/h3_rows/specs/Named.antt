@@ -18,13 +18,13 @@ use Rattle.h3_lines.specs.declared.run_error.RunError.{RunError}
 use Rattle.h3_lines.specs.declared.run_error.RunError.TheVariants.{Error, Fault}
 use Rattle.h3_lines.specs.Pieces.{Piece, cut, pieces_of, rows_of}
 use Rattle.h3_lines.specs.Taking.{cells_before}
-use Rattle.h3_rows.specs.Cells.{cell_said}
+use Rattle.h3_rows.specs.Cells.{cell_read}
 use Rattle.h3_rows.specs.Row.{is_empty_row, next_number, piece_at, read_of, row_body}
 use Rattle.h3_rows.specs.RowForm.{form_of}
-use Rattle.h3_rows.specs.RowsAnswer.{After, Choice, Form, Named, choice_of, chosen_in, columns_first, columns_in, malformed, row_said}
+use Rattle.h3_rows.specs.RowsAnswer.{After, Choice, Form, Named, choice_of, chosen_in, columns_first, columns_in, malformed, row_cell}
 use Rattle.h3_rows.specs.declared.state.Columns.{Columns}
 use Rattle.h3_rows.specs.declared.table.TableColumns.{TableColumns}
-use Rattle.h3_rows.specs.declared.table.TableOptions.{TableOptions}
+use Rattle.h3_requests.specs.declared.rows.TableOptions.{TableOptions}
 
 -- Entry: what is read of a row: a cell and its name; of a header, no cell and the name of the column of names
 abbrev pub Entry : Type 0
@@ -72,7 +72,7 @@ entries_at n (Err e) = Err (ending_by.AtRow n e)
 
 -- named_row table n columns row: the named cell of the row with this number
 abbrev pub named_row : Table → ℕ → TableColumns → List ℕ → Result (List Entry) RowError
-named_row table n columns row = with_name (cell_said (row_said table.form n columns.cell row)) (name_at table.form columns.name (read_of n row))
+named_row table n columns row = with_name (cell_read (row_cell table.form n columns.cell row)) (name_at table.form columns.name (read_of n row))
 
 -- ---- the columns
 
@@ -166,19 +166,20 @@ begun_named table rows = named_then (λ columns. Ok []) table 1 (table_first tab
 pub record AllNamedRead (table : Table) (entries : Result (List Entry) AnswerError) (old new : Option (List ℕ)) : Type 0 where
   pub list : List ℕ
   pub held : HasLeft old list
-  pub told : Consumes old new list
+  pub consumed : Consumes old new list
   pub within : IsWithinReads (2 ^ 40) 65536 list
   pub is : named_cells table (rows_of table.form.quotes list) ≡ entries
 
--- NamedReadTo: a part of a list is read, and then at most so many bytes more; the rows that end in the part have no
--- error, and the one that does not has at most 1,114,111 bytes in it
+-- NamedReadTo: a part of a list is read, and then at most so many bytes more, in reads that may be made; the rows that end
+-- in the part have no error, and the one that does not has at most 1,114,111 bytes in it
 pub record NamedReadTo (table : Table) (most : ℕ) (old new : Option (List ℕ)) : Type 0 where
   pub part : List ℕ
   pub last : List ℕ
   pub rest : List ℕ
   pub held : HasLeft old (part ++ last ++ rest)
-  pub told : Consumes old new (part ++ last)
+  pub consumed : Consumes old new (part ++ last)
   pub short : length last ≤ most
+  pub within : length (part ++ last) ≤ 2 ^ 40 * 65536
   pub ended : List Piece
   pub unended : Piece
   pub rows : pieces_of table.form.quotes part ≡ ended ++ unended ∷ []
@@ -193,13 +194,12 @@ pub record RefusesNamedAtEnd (table : Table) (e : AnswerError) (old new : Option
   pub entries : List Entry
   pub good : begun_named table (rows_of table.form.quotes read.list) ≡ Ok entries
 
--- RefusesNamedInPage table e: a row of a list has this error, and at most a page is read beyond rows without one, in reads
--- that may be made; the list ends within the reads that may be made, or each that begins with what is read has the error
+-- RefusesNamedInPage table e: a row of a list has this error, and at most a page is read beyond rows without one; the list
+-- ends within the reads that may be made, or each that begins with what is read has the error
 pub record RefusesNamedInPage (table : Table) (e : AnswerError) (old new : Option (List ℕ)) : Type 0 where
   pub stop : NamedReadTo table 65536 old new
   pub is : named_cells table (rows_of table.form.quotes (stop.part ++ stop.last ++ stop.rest)) ≡ Err e
   pub of_row : begun_named table (rows_of table.form.quotes (stop.part ++ stop.last ++ stop.rest)) ≡ Err e
-  pub within : length (stop.part ++ stop.last) ≤ 2 ^ 40 * 65536
   pub known : IsWithinReads (2 ^ 40) 65536 (stop.part ++ stop.last ++ stop.rest)
       ⊎ ((after : List ℕ) → named_cells table (rows_of table.form.quotes (stop.part ++ stop.last ++ after)) ≡ Err e)
 

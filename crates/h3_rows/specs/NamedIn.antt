@@ -5,7 +5,7 @@ use Rattle.h3_lines.specs.declared.run_error.AnswerError.{AnswerError}
 use Rattle.h3_rows.specs.Named.{Entry, named_then, table_of}
 use Rattle.h3_rows.specs.declared.table.TableColumns.{TableColumns}
 use Rattle.h3_rows.specs.declared.table.TableState.{TableState}
-use Rattle.h3_rows.specs.declared.table.TableOptions.{TableOptions}
+use Rattle.h3_requests.specs.declared.rows.TableOptions.{TableOptions}
 
 -- the entries of rows by these options, in this state, and then what is last
 abbrev pub named_in : (Option TableColumns → Result (List Entry) AnswerError) → TableOptions × TableState → List Piece → Result (List Entry) AnswerError

@@ -19,9 +19,9 @@ use Rattle.h3_lines.specs.declared.run_error.RowFault.TheVariants.{CarriageRetur
 use Rattle.h3_lines.specs.Pieces.{Piece, cut, is_uncut}
 use Rattle.h3_rows.specs.Row.{field_text, is_empty_row, list_rows, mark_of, next_number, piece_at, quotes_are_sound, read_of, row_body, row_ending, unmarked}
 use Rattle.h3_rows.specs.declared.state.Columns.{Columns}
-use Rattle.h3_rows.specs.declared.state.Kept.{Kept}
-use Rattle.h3_rows.specs.declared.said.Said.{Said}
-use Rattle.h3_rows.specs.declared.said.Said.TheVariants.{Index, Missing}
+use Rattle.h3_rows.specs.declared.state.FirstError.{FirstError}
+use Rattle.h3_rows.specs.declared.row_cell.RowCell.{RowCell}
+use Rattle.h3_rows.specs.declared.row_cell.RowCell.TheVariants.{Index, Missing}
 
 -- ---- how rows are read, and written with their answers
 
@@ -31,8 +31,9 @@ pub data Choice : Type 0 where
   Named : List ℕ → Choice
 
 -- Form: the byte that separates fields, whether quotes count, which field has the cell, whether there is a header, the names
--- of the new columns, what a row gets that has no answer, whether the run goes on after an error, whether one more column
--- has the names of errors, and whether rows may have another number of fields than the header
+-- of the new columns, what a row gets that has no answer, whether quotes count in an answer too, whether the run goes on
+-- after an error, whether one more column has the names of errors, and whether rows may have another number of fields than
+-- the header
 pub record Form : Type 0 where
   pub separator : ℕ
   pub quotes : Bool
@@ -40,6 +41,7 @@ pub record Form : Type 0 where
   pub has_header : Bool
   pub names : List (List ℕ)
   pub empty : List ℕ
+  pub quoted_answers : Bool
   pub keeps_going : Bool
   pub shows_errors : Bool
   pub is_ragged : Bool
@@ -77,18 +79,18 @@ empty_answer false separator = []
 -- ---- what a row says of its cell
 
 -- index_said index: the index that a text parses as; a text that parses as none is faulty
-abbrev pub index_said : Option ℕ → Result Said RowFault
+abbrev pub index_said : Option ℕ → Result RowCell RowFault
 index_said None = Err NotAnIndex
 index_said (Some index) = Ok (Index index)
 
--- text_said text: the cell is missing if the text is blank; else its index is what the text parses as
-abbrev pub text_said : List ℕ → Result Said RowFault
-text_said text = if length (trimmed text) == 0 then Ok Missing else index_said (parsed_index text)
+-- text_cell text: the cell is missing if the text is blank; else its index is what the text parses as
+abbrev pub text_cell : List ℕ → Result RowCell RowFault
+text_cell text = if length (trimmed text) == 0 then Ok Missing else index_said (parsed_index text)
 
--- field_said quotes field: what a field says; a row without the field is faulty
-abbrev pub field_said : Bool → Option (List ℕ) → Result Said RowFault
-field_said quotes None = Err NoSuchField
-field_said quotes (Some field) = text_said (field_text quotes field)
+-- field_cell quotes field: what a field says; a row without the field is faulty
+abbrev pub field_cell : Bool → Option (List ℕ) → Result RowCell RowFault
+field_cell quotes None = Err NoSuchField
+field_cell quotes (Some field) = text_cell (field_text quotes field)
 
 -- is_as_wide width n: so many fields are as many as a header has, if rows have to have as many
 abbrev pub is_as_wide : Option ℕ → ℕ → Bool
@@ -102,13 +104,13 @@ width_of (Some width) = width
 
 -- fields_said quotes columns fields: what the fields of a row say of its cell, which is in the field after so many others;
 -- a row is faulty that has another number of fields than the header
-abbrev pub fields_said : Bool → Columns → List Piece → Result Said RowFault
+abbrev pub fields_said : Bool → Columns → List Piece → Result RowCell RowFault
 fields_said quotes columns fields =
-    if is_as_wide columns.width (length fields) then field_said quotes (piece_at columns.before fields) else Err (FieldCount (length fields) (width_of columns.width))
+    if is_as_wide columns.width (length fields) then field_cell quotes (piece_at columns.before fields) else Err (FieldCount (length fields) (width_of columns.width))
 
--- row_said form number columns row: what the row with this number says of its cell
-abbrev pub row_said : Form → ℕ → Columns → List ℕ → Result Said RowFault
-row_said form number columns row = fields_said form.quotes columns (cut form.separator form.quotes false (read_of number row))
+-- row_cell form number columns row: what the row with this number says of its cell
+abbrev pub row_cell : Form → ℕ → Columns → List ℕ → Result RowCell RowFault
+row_cell form number columns row = fields_said form.quotes columns (cut form.separator form.quotes false (read_of number row))
 
 -- malformed form number p: why a row is no row of the form, if it is none: it has more than 1,048,575 bytes, or more than
 -- 1,114,111 with a byte order mark and the carriage returns at its end; if quotes count, it has a carriage return outside
@@ -156,9 +158,9 @@ with_width width (Ok before) = Ok record { before = before; width = width }
 abbrev pub columns_in : Form → List ℕ → Result Columns ColumnError
 columns_in form row = with_width (width_in form row) (chosen_in form form.choice row)
 
--- is_free form row name: no field of a header has a name as its text
+-- is_free form row name: no field of a header has the text that the name has as a field
 abbrev pub is_free : Form → List ℕ → List ℕ → Bool
-is_free form row name = length (places_of form.quotes name 0 (cut form.separator form.quotes false row)) == 0
+is_free form row name = length (places_of form.quotes (field_text form.quotes name) 0 (cut form.separator form.quotes false row)) == 0
 
 -- free_columns form row columns: a header that has the name of a new column already can't get it once more
 abbrev pub free_columns : Form → List ℕ → Result Columns ColumnError → Result Columns ColumnError
@@ -173,7 +175,7 @@ pub record State : Type 0 where
   pub number : ℕ
   pub columns : Option Columns
   pub pending : List ℕ
-  pub kept : Option Kept
+  pub kept : Option FirstError
 
 -- columns_first has_header choice: the columns at the beginning of a list; a header is awaited if there is one, and if the
 -- field has a name
@@ -187,12 +189,12 @@ abbrev pub start : Form → State
 start form = record { number = 1; columns = columns_first form.has_header form.choice; pending = []; kept = None }
 
 -- one_more number e kept: an error at a row, after those that are kept
-abbrev pub one_more : ℕ → RowError → Option Kept → Kept
+abbrev pub one_more : ℕ → RowError → Option FirstError → FirstError
 one_more number e None = record { number = number; error = e; more = 0 }
 one_more number e (Some k) = record { number = k.number; error = k.error; more = k.more + 1 }
 
 -- more_kept kept: how many errors more were kept
-abbrev pub more_kept : Option Kept → ℕ
+abbrev pub more_kept : Option FirstError → ℕ
 more_kept None = 0
 more_kept (Some k) = k.more
 
@@ -214,9 +216,10 @@ each_with separator after line [] = []
 each_with separator after line (a ∷ []) = []
 each_with separator after line (a ∷ b ∷ more) = row_with separator line (a.0 ++ after) ++ each_with separator after line (b ∷ more)
 
--- rows_with separator after line text: the row once for each line of an answer's text, with that line
-abbrev pub rows_with : ℕ → List ℕ → List ℕ → List ℕ → List ℕ
-rows_with separator after line text = each_with separator after line (cut 10 false false text)
+-- rows_with separator quotes after line text: the row once for each line of an answer's text, with that line; if quotes
+-- count in it, a line feed inside quotes ends no line
+abbrev pub rows_with : ℕ → Bool → List ℕ → List ℕ → List ℕ → List ℕ
+rows_with separator quotes after line text = each_with separator after line (cut 10 quotes false text)
 
 -- error_field form name: one more field with the name of an error, if there is a column for it
 abbrev pub error_field : Form → List ℕ → List ℕ
@@ -224,7 +227,7 @@ error_field form name = if form.shows_errors then form.separator ∷ name else [
 
 -- answered_with form line text: the row once for each line of an answer's text, and no error
 abbrev pub answered_with : Form → List ℕ → List ℕ → List ℕ
-answered_with form line text = rows_with form.separator (error_field form []) line text
+answered_with form line text = rows_with form.separator form.quoted_answers (error_field form []) line text
 
 -- unanswered form line name: the row with an empty answer, and the name of an error
 abbrev pub unanswered : Form → List ℕ → List ℕ → List ℕ
@@ -259,11 +262,11 @@ beside form s line output (Ok u) = goes_on s line (answered_with form line outpu
 beside form s line output (Err (ending_by.Call e)) = faulty form s line (row_error.Call e)
 beside form s line output (Err e) = record { answer = record { output = answered_with form line output; ending = Err e }; after = s }
 
--- answer_said form answer s line said: the answer to what a row says of its cell
-abbrev pub answer_said : Form → (Option ℕ → Answer) → State → List ℕ → Result Said RowFault → Step
-answer_said form answer s line (Err fault) = faulty form s line (row_error.Bad fault)
-answer_said form answer s line (Ok Missing) = goes_on s line (unanswered form line (codes "missing"))
-answer_said form answer s line (Ok (Index index)) = beside form s line (answer (Some index)).output (answer (Some index)).ending
+-- answer_to_cell form answer s line said: the answer to what a row says of its cell
+abbrev pub answer_to_cell : Form → (Option ℕ → Answer) → State → List ℕ → Result RowCell RowFault → Step
+answer_to_cell form answer s line (Err fault) = faulty form s line (row_error.Bad fault)
+answer_to_cell form answer s line (Ok Missing) = goes_on s line (unanswered form line (codes "missing"))
+answer_to_cell form answer s line (Ok (Index index)) = beside form s line (answer (Some index)).output (answer (Some index)).ending
 
 -- header_step form s line columns: a header is written as it is, with the names of the new columns, after the empty rows
 -- before it; if it has no such column nothing is written
@@ -293,7 +296,7 @@ abbrev pub filled_step : Form → (Option ℕ → Answer) → State → List ℕ
 filled_step form answer s line None = let row = read_of s.number (row_body line) in header_step form s line (free_columns form row (columns_in form row))
 filled_step form answer s line (Some columns) =
     marked (mark_of s.number (row_body line))
-    (answer_said form answer s (unmarked s.number line) (row_said form s.number columns (row_body line)))
+    (answer_to_cell form answer s (unmarked s.number line) (row_cell form s.number columns (row_body line)))
 
 -- empty_step s line columns: an empty row is written as it is; before a header it is held back, but for more than 32,768
 -- bytes of such rows, which are written at once
@@ -327,7 +330,7 @@ rows_then last form answer s (p ∷ ps) =
     then_answer (row_step form answer s p).answer.output (row_step form answer s p).answer.ending (rows_then last form answer (row_step form answer s p).after ps)
 
 -- kept_ending kept: a run that went on ends with the first error, and the number of others
-abbrev pub kept_ending : Option Kept → Result (Unit {0}) AnswerError
+abbrev pub kept_ending : Option FirstError → Result (Unit {0}) AnswerError
 kept_ending None = Ok tt
 kept_ending (Some k) = Err (ending_by.AtRowAndMore k.number k.error k.more)
 

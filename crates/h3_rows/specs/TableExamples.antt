@@ -16,7 +16,7 @@ use Rattle.h3_rows.specs.RowsAnswer.{After, Choice, Form, Named}
 
 -- commas between fields, and quotes count
 abbrev commas : Choice → Bool → Bool → Form
-commas choice has_header is_ragged = record { separator = 44; quotes = true; choice = choice; has_header = has_header; names = []; empty = []; keeps_going = false; shows_errors = false; is_ragged = is_ragged }
+commas choice has_header is_ragged = record { separator = 44; quotes = true; choice = choice; has_header = has_header; names = []; empty = []; quoted_answers = false; keeps_going = false; shows_errors = false; is_ragged = is_ragged }
 
 -- a header, the cells in the column `cell`, and the names in the column `zone`
 abbrev zones : Table
@@ -36,7 +36,7 @@ named_after = record { form = commas (After 0) false false; name = After 1 }
 
 -- the same with tabs, and no quotes
 abbrev tabs : Table
-tabs = record { form = record { separator = 9; quotes = false; choice = After 0; has_header = false; names = []; empty = []; keeps_going = false; shows_errors = false; is_ragged = false }; name = After 1 }
+tabs = record { form = record { separator = 9; quotes = false; choice = After 0; has_header = false; names = []; empty = []; quoted_answers = false; keeps_going = false; shows_errors = false; is_ragged = false }; name = After 1 }
 
 abbrev p : List ℕ
 p = codes "85283473fffffff"

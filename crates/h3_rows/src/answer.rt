@@ -10,7 +10,7 @@ ghost use Rattle.h3_rows.specs.Answering.{BreaksCell, PutsCell, PutsPlain, StepE
 ghost use Rattle.h3_rows.specs.Line.{line_of};
 ghost use Rattle.h3_rows.specs.Plain.{IsPlainField};
 ghost use Rattle.h3_rows.specs.RowForm.{columns_form};
-ghost use Rattle.h3_rows.specs.RowsAnswer.{State, answer_said, error_field, faulty, filled_step, marked, row_step};
+ghost use Rattle.h3_rows.specs.RowsAnswer.{State, answer_to_cell, error_field, faulty, filled_step, marked, row_step};
 
 use crate::fields::{mark_of, read_of};
 use crate::function::{RowFunction, Workspace};
@@ -23,7 +23,7 @@ use crate::put::{
 };
 use crate::reading::{malformed, read_row};
 use crate::row::Row;
-use crate::said::Said;
+use crate::row_cell::RowCell;
 use crate::state::{Columns, RowState};
 use h3_index::read_plain;
 use h3_lines::{ANSWER, AnswerError, BLOCK, RowError, RowFault, RunError, write_held};
@@ -48,24 +48,27 @@ fn answer_cell<'f, W: Sink, F: RowFunction>(
     job: &RowJob<'f, F>,
     work: &mut Workspace,
     row: Row<'_>,
-    said: Result<Said, RowFault>,
+    said: Result<RowCell, RowFault>,
 ) -> Result<Result<usize, RowError>, RunError>
     requires { end ≤ BLOCK }
     ensures within { IfOk result (λ o. IfOk o (λ last. last ≤ BLOCK)) }
     ensures ok { IfOk result (λ o. IfOk o (λ last. PutsCell W.taken W.has_failed
-        (λ s. answer_said (form_of_job job.now) (F.answer_of job.now.function.now) s (line_of row.entry) said)
+        (λ s. answer_to_cell (form_of_job F.counts_quotes job.now) (F.answer_of job.now.function.now)
+        s (line_of row.entry) said)
         (line_of row.entry) (take end block.old) (take last block.new) out.old out.new)) }
     ensures faulty { IfOk result (λ o. IfErr o (λ e. (s : State) →
-        answer_said (form_of_job job.now) (F.answer_of job.now.function.now) s (line_of row.entry) said
-        ≡ faulty (form_of_job job.now) s (line_of row.entry) e)) }
+        answer_to_cell (form_of_job F.counts_quotes job.now) (F.answer_of job.now.function.now)
+        s (line_of row.entry) said
+        ≡ faulty (form_of_job F.counts_quotes job.now) s (line_of row.entry) e)) }
     ensures kept { IfOk result (λ o. IfErr o (λ e. take end block.new ≡ take end block.old)) }
     ensures left { IfOk result (λ o. IfErr o (λ e. out.new ≡ out.old)) }
     ensures err { IfErr result (λ e. BreaksCell
-        (λ s. answer_said (form_of_job job.now) (F.answer_of job.now.function.now) s (line_of row.entry) said)
+        (λ s. answer_to_cell (form_of_job F.counts_quotes job.now) (F.answer_of job.now.function.now)
+        s (line_of row.entry) said)
         (line_of row.entry) (take end block.old) (sink_use W.taken W.has_failed out.old out.new) e) }
 {
     match said {
-        Ok(Said::Index(index)) => {
+        Ok(RowCell::Index(index)) => {
             let separator = job.options.separator;
             let between = [separator];
             let after = &between[..after_size(job.options)];
@@ -77,7 +80,7 @@ fn answer_cell<'f, W: Sink, F: RowFunction>(
                 Err(error) => Ok(Err(RowError::Call(error))),
             }
         }
-        Ok(Said::Missing) => {
+        Ok(RowCell::Missing) => {
             let last = put_unanswered(out, block, end, job, row, b"missing")?;
             Ok(Ok(last))
         }
@@ -121,7 +124,7 @@ fn put_cell<'f, W: Sink, F: RowFunction>(
     work: &mut Workspace,
     state: RowState,
     row: Row<'_>,
-    said: Result<Said, RowFault>,
+    said: Result<RowCell, RowFault>,
 ) -> Result<(usize, RowState), RunError>
     requires within { end + mark ≤ BLOCK }
     requires known { (k : Columns) × (state.columns ≡ Some k) }
@@ -129,12 +132,12 @@ fn put_cell<'f, W: Sink, F: RowFunction>(
     ensures within { IfOk result (λ r. r.0 ≤ BLOCK) }
     ensures few { IfOk result (λ r. r.1.number ≤ state.number + length row.entry.body.now + 1) }
     ensures ok { IfOk result (λ r. StepsTo W.taken W.has_failed
-        (marked (mark_in end mark block.old) (answer_said (form_of_job job.now)
+        (marked (mark_in end mark block.old) (answer_to_cell (form_of_job F.counts_quotes job.now)
         (F.answer_of job.now.function.now) (state_of state (take end block.old)) (line_of row.entry) said))
         (state_of r.1 (take r.0 block.new)) (held_of state.columns (take end block.old))
         (held_of r.1.columns (take r.0 block.new)) out.old out.new) }
     ensures err { IfErr result (λ e. StepEnds
-        (marked (mark_in end mark block.old) (answer_said (form_of_job job.now)
+        (marked (mark_in end mark block.old) (answer_to_cell (form_of_job F.counts_quotes job.now)
         (F.answer_of job.now.function.now) (state_of state (take end block.old)) (line_of row.entry) said))
         (held_of state.columns (take end block.old)) e
         (sink_use W.taken W.has_failed out.old out.new)) }
@@ -170,12 +173,12 @@ fn put_filled<'f, W: Sink, F: RowFunction>(
     ensures within { IfOk result (λ r. r.0 ≤ BLOCK) }
     ensures few { IfOk result (λ r. r.1.number ≤ state.number + length row.entry.body.now + 1) }
     ensures ok { IfOk result (λ r. StepsTo W.taken W.has_failed
-        (filled_step (form_of_job job.now) (F.answer_of job.now.function.now)
+        (filled_step (form_of_job F.counts_quotes job.now) (F.answer_of job.now.function.now)
         (state_of state (take end block.old)) (line_of row.entry) (Some columns))
         (state_of r.1 (take r.0 block.new)) (held_of state.columns (take end block.old))
         (held_of r.1.columns (take r.0 block.new)) out.old out.new) }
     ensures err { IfErr result (λ e. StepEnds
-        (filled_step (form_of_job job.now) (F.answer_of job.now.function.now)
+        (filled_step (form_of_job F.counts_quotes job.now) (F.answer_of job.now.function.now)
         (state_of state (take end block.old)) (line_of row.entry) (Some columns))
         (held_of state.columns (take end block.old)) e
         (sink_use W.taken W.has_failed out.old out.new)) }
@@ -203,12 +206,12 @@ pub(crate) fn put_answer<'f, W: Sink, F: RowFunction>(
     ensures within { IfOk result (λ r. r.0 ≤ BLOCK) }
     ensures few { IfOk result (λ r. r.1.number ≤ state.number + length row.entry.body.now + 1) }
     ensures ok { IfOk result (λ r. StepsTo W.taken W.has_failed
-        (row_step (form_of_job job.now) (F.answer_of job.now.function.now)
+        (row_step (form_of_job F.counts_quotes job.now) (F.answer_of job.now.function.now)
         (state_of state (take end block.old)) (line_of row.entry, inside))
         (state_of r.1 (take r.0 block.new)) (held_of state.columns (take end block.old))
         (held_of r.1.columns (take r.0 block.new)) out.old out.new) }
     ensures err { IfErr result (λ e. StepEnds
-        (row_step (form_of_job job.now) (F.answer_of job.now.function.now)
+        (row_step (form_of_job F.counts_quotes job.now) (F.answer_of job.now.function.now)
         (state_of state (take end block.old)) (line_of row.entry, inside))
         (held_of state.columns (take end block.old)) e
         (sink_use W.taken W.has_failed out.old out.new)) }
@@ -263,7 +266,7 @@ pub(crate) fn put_plain<'f, F: RowFunction>(
     requires known { state.columns ≡ Some columns }
     ensures within { IfSome result (λ r. r.2 ≤ BLOCK) }
     ensures some { IfSome result (λ r. PutsPlain
-        (form_of_job job.now) (F.answer_of job.now.function.now) state bytes.now
+        (form_of_job F.counts_quotes job.now) (F.answer_of job.now.function.now) state bytes.now
         (take end block.old) (take r.2 block.new) r.0 r.1) }
     ensures none { IfNone result (take end block.new ≡ take end block.old) }
 {

@@ -9,9 +9,9 @@ ghost use Rattle.h3_rows.specs.Named.{AllNamedRead, Entry, RefusesNamed, table_o
 
 use crate::named::{NamedJob, take_named_cells};
 use crate::names::Names;
-use crate::table::TableOptions;
 use h3_index::Cell;
 use h3_lines::{Fault, RunError};
+use h3_requests::TableOptions;
 use h3_streams::Source;
 use std::alloc::Global;
 

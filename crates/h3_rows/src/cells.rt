@@ -5,11 +5,11 @@ ghost use Rattle.h3_index.specs.Cell.{Address};
 ghost use Rattle.h3_lines.specs.Taking.{HaveCells, RefusesCells, cell_list};
 ghost use Rattle.h3_lines.specs.TakingLaws.{have_none, have_then, refuses_after};
 ghost use Rattle.h3_rows.specs.Row.{next_number};
-ghost use Rattle.h3_rows.specs.Cells.{AllRowsRead, RefusesRows, cell_said, cells_end, row_found};
+ghost use Rattle.h3_rows.specs.Cells.{AllRowsRead, RefusesRows, cell_read, cells_end, row_found};
 ghost use Rattle.h3_rows.specs.CellsIn.{cells_in};
 ghost use Rattle.h3_rows.specs.Line.{line_of};
 ghost use Rattle.h3_rows.specs.RowForm.{form_of};
-ghost use Rattle.h3_rows.specs.RowsAnswer.{choice_of, row_said};
+ghost use Rattle.h3_rows.specs.RowsAnswer.{choice_of, row_cell};
 ghost use Rattle.h3_rows.specs.declared.reading.TheConstants.{LONGEST};
 
 use crate::fields::read_of;
@@ -17,12 +17,12 @@ use crate::header::columns_in;
 use crate::line::row_of;
 use crate::reading::{LONGEST, malformed, read_row};
 use crate::row::Row;
-use crate::said::Said;
+use crate::row_cell::RowCell;
 use crate::state::{Columns, RowState, first_state};
 use h3_index::Cell;
 use h3_lines::{
-    AnswerError, CellJob, ColumnError, Job, MAX_READS, PAGE, RowError, RowFault, RunError, Taking,
-    drive, row_page,
+    AnswerError, CellJob, ColumnError, Job, JobContract, MAX_READS, PAGE, RowError, RowFault,
+    RunError, drive, row_page,
 };
 use h3_requests::{CellField, RowOptions};
 use h3_streams::{CountedReader, Source};
@@ -35,11 +35,11 @@ pub(crate) fn read_cell(
     columns: Columns,
     row: &[u8],
 ) -> Result<Option<Cell>, RowError>
-    ensures { result ≡ cell_said (row_said (form_of options.now []) number columns row.now) }
+    ensures { result ≡ cell_read (row_cell (form_of options.now []) number columns row.now) }
 {
     match read_row(options, b"", number, columns, row) {
-        Ok(Said::Missing) => Ok(None),
-        Ok(Said::Index(index)) => match Cell::new(index) {
+        Ok(RowCell::Missing) => Ok(None),
+        Ok(RowCell::Index(index)) => match Cell::new(index) {
             Ok(cell) => Ok(Some(cell)),
             Err(error) => Err(RowError::Call(error)),
         },
@@ -93,7 +93,7 @@ struct RowCells<'f, V: CellJob> {
     ghost few: { V.count job ≤ state.number },
 }
 
-impl<'f, V: CellJob> Taking for RowCells<'f, V> {
+impl<'f, V: CellJob> JobContract for RowCells<'f, V> {
     ghost longest = { LONGEST };
 
     ghost count = { λ v. v.state.number };

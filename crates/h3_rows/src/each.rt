@@ -9,7 +9,7 @@ ghost use Rattle.h3_rows.specs.Answering.{form_of_job, held_of, state_of};
 ghost use Rattle.h3_lines.specs.EachLaws.{answered_none, answered_then, refuses_then};
 ghost use Rattle.h3_rows.specs.Each.{EndsRows};
 ghost use Rattle.h3_rows.specs.LastRow.{returns_after, returns_then};
-ghost use Rattle.h3_rows.specs.RowForm.{columns_form, form_of};
+ghost use Rattle.h3_rows.specs.RowForm.{form_of, form_with};
 ghost use Rattle.h3_rows.specs.RowsAnswer.{begun_answer, choice_of, end_of, rows_answer, rows_then, start};
 ghost use Rattle.h3_rows.specs.declared.reading.TheConstants.{LONGEST};
 
@@ -20,8 +20,8 @@ use crate::line::{end_row, row_of};
 use crate::reading::LONGEST;
 use crate::state::{RowState, first_state};
 use h3_lines::{
-    AnswerError, AnswerLine, BLOCK, ColumnError, Job, MAX_READS, PAGE, RowError, RowFault,
-    RunError, Taking, drive_to_end, row_page, take_last, write_held,
+    AnswerError, AnswerLine, BLOCK, ColumnError, Job, JobContract, MAX_READS, PAGE, RowError,
+    RowFault, RunError, drive_to_end, row_page, take_last, write_held,
 };
 use h3_requests::{CellField, RowOptions};
 use h3_streams::{CountedReader, Sink, Source};
@@ -66,7 +66,7 @@ struct RowAnswers<'a, 'f, W, F> {
     ghost within: { end ≤ BLOCK },
 }
 
-impl<'a, 'f, W: Sink, F: RowFunction> Taking for RowAnswers<'a, 'f, W, F> {
+impl<'a, 'f, W: Sink, F: RowFunction> JobContract for RowAnswers<'a, 'f, W, F> {
     ghost longest = { LONGEST };
 
     ghost count = { λ v. v.state.number };
@@ -76,7 +76,7 @@ impl<'a, 'f, W: Sink, F: RowFunction> Taking for RowAnswers<'a, 'f, W, F> {
     ghost taken = { λ v rows w.
         Answered W.taken W.has_failed
         (λ last. rows_then last
-        (form_of_job v.job.now)
+        (form_of_job F.counts_quotes v.job.now)
         (F.answer_of v.job.now.function.now))
         (state_of v.state (take v.end v.block)) (state_of w.state (take w.end w.block))
         (held_of v.state.columns (take v.end v.block))
@@ -87,7 +87,7 @@ impl<'a, 'f, W: Sink, F: RowFunction> Taking for RowAnswers<'a, 'f, W, F> {
     ghost refused = { λ v rows w e.
         RefusesEach
         (λ last. rows_then last
-        (form_of_job v.job.now)
+        (form_of_job F.counts_quotes v.job.now)
         (F.answer_of v.job.now.function.now))
         (state_of v.state (take v.end v.block)) (held_of v.state.columns (take v.end v.block))
         rows e (sink_use W.taken W.has_failed v.out.now w.out.now)
@@ -113,7 +113,7 @@ impl<'a, 'f, W: Sink, F: RowFunction> Taking for RowAnswers<'a, 'f, W, F> {
 
     ghost taken_then = { λ u v w xs ys p q. (
       answered_then _ _ (λ j last. rows_then last
-          (form_of_job j.now)
+          (form_of_job F.counts_quotes j.now)
           (F.answer_of j.now.function.now)) xs ys p.1 p.0 q.0,
       q.1 ∙ p.1,
       q.2 ∙ p.2,
@@ -122,7 +122,7 @@ impl<'a, 'f, W: Sink, F: RowFunction> Taking for RowAnswers<'a, 'f, W, F> {
 
     ghost refused_then = { λ u v w xs ys e p q. (
       refuses_then _ _ (λ j last. rows_then last
-          (form_of_job j.now)
+          (form_of_job F.counts_quotes j.now)
           (F.answer_of j.now.function.now)) _ xs ys e p.1 p.0 q.0,
       q.1 ∙ p.2,
     ) };
@@ -187,17 +187,17 @@ fn answer_input<'a, 'f, R: Source, W: Sink, F: RowFunction>(
 ) -> Result<(), RunError>
     requires first { state_of answers.old.state (take answers.old.end answers.old.block)
         ≡ start
-        (form_of_job answers.old.job.now) }
+        (form_of_job F.counts_quotes answers.old.job.now) }
     requires empty { answers.old.end ≡ 0 }
     requires none { answers.old.returns ≡ 0 }
     requires few { answers.old.state.number ≡ 1 }
     requires page { LONGEST + PAGE ≤ vec_capacity page.old }
     ensures ends { EndsRows answers.old.job.now.options.now.quotes
         (rows_answer
-        (form_of_job answers.old.job.now)
+        (form_of_job F.counts_quotes answers.old.job.now)
         (F.answer_of answers.old.job.now.function.now))
         (begun_answer
-        (form_of_job answers.old.job.now)
+        (form_of_job F.counts_quotes answers.old.job.now)
         (F.answer_of answers.old.job.now.function.now))
         (R.left input.old) (R.left input.new)
         (R.has_failed input.old) (R.has_failed input.new) result
@@ -229,9 +229,9 @@ fn answer_pages<'f, R: Source, W: Sink, F: RowFunction>(
 ) -> Result<(), RunError>
     requires page { LONGEST + PAGE ≤ vec_capacity page.old }
     ensures { EndsRows job.now.options.now.quotes
-        (rows_answer (form_of_job job.now)
+        (rows_answer (form_of_job F.counts_quotes job.now)
         (F.answer_of job.now.function.now))
-        (begun_answer (form_of_job job.now)
+        (begun_answer (form_of_job F.counts_quotes job.now)
         (F.answer_of job.now.function.now))
         (R.left input.old) (R.left input.new)
         (R.has_failed input.old) (R.has_failed input.new) result
@@ -266,8 +266,10 @@ pub(crate) fn answer_input_by<R: Source, W: Sink, F: RowFunction>(
     out: &mut W,
 ) -> Result<(), RunError>
     ensures { EndsRows options.now.quotes
-        (rows_answer (columns_form options.now name.now is_pair) (F.answer_of function.now))
-        (begun_answer (columns_form options.now name.now is_pair) (F.answer_of function.now))
+        (rows_answer (form_with (F.counts_quotes function.now) options.now name.now is_pair)
+        (F.answer_of function.now))
+        (begun_answer (form_with (F.counts_quotes function.now) options.now name.now is_pair)
+        (F.answer_of function.now))
         (R.left input.old) (R.left input.new)
         (R.has_failed input.old) (R.has_failed input.new) result
         (sink_use W.taken W.has_failed out.old out.new) }

@@ -1,6 +1,6 @@
 //! Rows of which each is written once for each of any number of answers to its cell.
 
-ghost use Rattle.std.specs.Prelude.{◌≡◌, ◌≤◌, ◌++◌, ℕ, List, length, take, Option, IfOk, IfErr};
+ghost use Rattle.std.specs.Prelude.{◌≡◌, ◌≤◌, ◌++◌, ℕ, Bool, false, List, length, take, Option, IfOk, IfErr};
 ghost use Rattle.std.specs.Iterator.{AlwaysYields, IsFinite};
 ghost use Rattle.std.specs.List.{flat_map};
 ghost use Rattle.h3_lines.specs.Answering.{Breaks, Moves};
@@ -38,10 +38,11 @@ fn put_lines_beside<W: Sink, L: Line + Drop, I: Iterator<Item = L> + Drop>(
     ensures within { IfOk result (λ last. last ≤ BLOCK) }
     ensures ok { IfOk result (λ last. (all : List _) → AlwaysYields I.next_gives (λ x. x) items all →
         Moves W.taken W.has_failed
-        (take end block.old ++ rows_with separator after.now (line_of row.entry) (flat_map L.line_of all))
-        (take last block.new) out.old out.new) }
+        (take end block.old ++ rows_with separator false after.now (line_of row.entry)
+        (flat_map L.line_of all)) (take last block.new) out.old out.new) }
     ensures err { IfErr result (λ e. (all : List _) → AlwaysYields I.next_gives (λ x. x) items all →
-        Breaks (take end block.old ++ rows_with separator after.now (line_of row.entry) (flat_map L.line_of all))
+        Breaks (take end block.old ++ rows_with separator false after.now (line_of row.entry)
+        (flat_map L.line_of all))
         (sink_use W.taken W.has_failed out.old out.new) e) }
 {
     let mut last = end;
@@ -61,6 +62,8 @@ struct Long<'f, F> {
 
 impl<'f, F: LinesFunction> RowFunction for Long<'f, F> {
     ghost answer_of = { λ f. F.answer_of f.function.now };
+
+    ghost counts_quotes = { λ f. false };
 
     fn put_beside<W: Sink>(
         &self,

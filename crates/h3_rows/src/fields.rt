@@ -174,7 +174,7 @@ pub(crate) fn has_return(row: &[u8]) -> bool
 }
 
 /// The bytes from the first one on that is not a blank.
-fn without_leading_blanks(bytes: &[u8]) -> &[u8]
+pub(crate) fn without_leading_blanks(bytes: &[u8]) -> &[u8]
     ensures { result.now ≡ without_leading_blanks bytes.now }
 {
     let mut rest = bytes;

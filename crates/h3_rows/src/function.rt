@@ -1,10 +1,9 @@
 //! What answers the cells of rows, each with its row beside it.
 
-ghost use Rattle.std.specs.Prelude.{◌≡◌, ◌+◌, ◌≤◌, ℕ, Option, Some, take, IfOk, IfErr, IfNone, IfSome};
+ghost use Rattle.std.specs.Prelude.{◌≡◌, ◌+◌, ◌≤◌, ℕ, Bool, false, Option, Some, take, IfOk, IfErr, IfNone, IfSome};
 ghost use Rattle.h3_lines.specs.Answer.{Answer, refused};
-ghost use Rattle.h3_lines.specs.Answering.{Puts};
 ghost use Rattle.h3_lines.specs.Write.{sink_use};
-ghost use Rattle.h3_rows.specs.Answering.{BreaksBeside, PutsBeside};
+ghost use Rattle.h3_rows.specs.Answering.{BreaksBeside, PutsBeside, PutsShort};
 ghost use Rattle.h3_rows.specs.Line.{line_of};
 
 use crate::row::Row;
@@ -25,6 +24,9 @@ pub(crate) trait RowFunction {
     /// The answer to an index. That to none is not asked for.
     ghost answer_of: { Self → Option ℕ → Answer };
 
+    /// Whether quotes count in an answer, as it is cut into lines.
+    ghost counts_quotes: { Self → Bool };
+
     /// Puts a row once for each line of the answer to its cell, with the bytes `after` it, after the
     /// bytes held back in a block, which end at `end`, and returns where they end then; or returns the answer's error, and changes
     /// nothing of them.
@@ -42,13 +44,15 @@ pub(crate) trait RowFunction {
         requires { end ≤ BLOCK }
         ensures within { IfOk result (λ o. IfOk o (λ last. last ≤ BLOCK)) }
         ensures ok { IfOk result (λ o. IfOk o (λ last.
-            PutsBeside W.taken W.has_failed (answer_of self.now (Some index)) separator after.now (line_of row.entry)
+            PutsBeside W.taken W.has_failed (answer_of self.now (Some index)) separator
+            (counts_quotes self.now) after.now (line_of row.entry)
             (take end block.old) (take last block.new) out.old out.new)) }
         ensures refused { IfOk result (λ o. IfErr o (λ e. answer_of self.now (Some index) ≡ refused e)) }
         ensures kept { IfOk result (λ o. IfErr o (λ e. take end block.new ≡ take end block.old)) }
         ensures left { IfOk result (λ o. IfErr o (λ e. out.new ≡ out.old)) }
         ensures err { IfErr result (λ e.
-            BreaksBeside (answer_of self.now (Some index)) separator after.now (line_of row.entry) (take end block.old)
+            BreaksBeside (answer_of self.now (Some index)) separator (counts_quotes self.now)
+            after.now (line_of row.entry) (take end block.old)
             (sink_use W.taken W.has_failed out.old out.new) e) };
 
     /// Puts the answer to an index into a block from the byte `at` on, if it is put so at once, and
@@ -63,7 +67,8 @@ pub(crate) trait RowFunction {
         requires room { at + ANSWER ≤ BLOCK }
         ensures end { IfSome result (λ last. last ≤ at + ANSWER) }
         ensures some { IfSome result (λ last.
-            Puts (answer_of self.now (Some index)) block.old block.new at last) }
+            PutsShort (counts_quotes self.now) (answer_of self.now (Some index))
+            block.old block.new at last) }
         ensures none { IfNone result (take at block.new ≡ take at block.old) };
 }
 
@@ -75,6 +80,8 @@ pub(crate) struct Short<'f, F> {
 
 impl<'f, F: AnswerLine> RowFunction for Short<'f, F> {
     ghost answer_of = { λ f. F.answer_of f.function.now };
+
+    ghost counts_quotes = { λ f. false };
 
     #[inline(always)]
     fn put_beside<W: Sink>(

@@ -3,12 +3,13 @@
 ghost use Rattle.std.specs.Prelude.{◌≡◌, ◌==◌, ◌≤◌, ◌+◌, ℕ, List, [], ◌∷◌, ◌++◌, false, length, option_map, string_bytes, bytes_eq, true, IfSome};
 ghost use Rattle.std.specs.List.{list_all};
 ghost use Rattle.h3_requests.specs.Rows.{is_counted};
-ghost use Rattle.h3_rows.specs.Answering.{fields_left, listed};
+ghost use Rattle.h3_rows.specs.Answering.{fields_left, is_tail, listed};
 ghost use Rattle.h3_lines.specs.Pieces.{cut};
+ghost use Rattle.h3_rows.specs.Row.{field_text};
 ghost use Rattle.h3_rows.specs.RowForm.{columns_form, form_of};
 ghost use Rattle.h3_rows.specs.RowsAnswer.{answer_names, choice_of, chosen_in, column_of, columns_in, error_names, free_columns, is_free, places_of};
 
-use crate::fields::{count_fields, field_text};
+use crate::fields::{count_fields, field_text, without_leading_blanks};
 use crate::state::Columns;
 use h3_lines::{ColumnError, split};
 use h3_requests::{CellField, RowOptions};
@@ -106,9 +107,11 @@ pub(crate) fn answer_names<'n>(
     name: &'n [u8],
     is_pair: bool,
 ) -> (Name<'n>, Option<Name<'n>>)
-    ensures { answer_names is_pair (option_map string_bytes options.now.name) name.now
+    ensures names { answer_names is_pair (option_map string_bytes options.now.name) name.now
         ≡ (result.0.0.now ++ result.0.1.now)
         ∷ listed (option_map (λ n. n.0.now ++ n.1.now) result.1) }
+    ensures first { is_tail result.0.1.now ≡ true }
+    ensures second { IfSome result.1 (λ n. is_tail n.1.now ≡ true) }
 {
     match (&options.name, is_pair) {
         (None, false) => ((name, b""), None),
@@ -123,8 +126,9 @@ pub(crate) fn answer_names<'n>(
 
 /// The name of the column of errors, if there is one.
 pub(crate) fn error_name(options: &RowOptions) -> Option<Name<'_>>
-    ensures { error_names options.now.shows_errors (option_map string_bytes options.now.name)
+    ensures names { error_names options.now.shows_errors (option_map string_bytes options.now.name)
         ≡ listed (option_map (λ n. n.0.now ++ n.1.now) result) }
+    ensures tail { IfSome result (λ n. is_tail n.1.now ≡ true) }
 {
     if !options.shows_errors {
         return None;
@@ -135,15 +139,30 @@ pub(crate) fn error_name(options: &RowOptions) -> Option<Name<'_>>
     }
 }
 
-/// Whether no field of a header has a name as its text.
+/// The text that a name has as a field, in two parts like the name.
+fn name_text<'n>(quotes: bool, name: Name<'n>) -> Name<'n>
+    requires { is_tail name.1.now ≡ true }
+    ensures { result.0.now ++ result.1.now
+        ≡ field_text quotes (name.entry.0.now ++ name.entry.1.now) }
+{
+    let (first, more) = name;
+    if more.is_empty() {
+        return (field_text(quotes, first), more);
+    }
+    (without_leading_blanks(first), more)
+}
+
+/// Whether no field of a header has the text of a name.
 fn is_free(options: &RowOptions, name: Name<'_>, row: &[u8]) -> bool
+    requires { is_tail name.1.now ≡ true }
     ensures { result ≡ is_free (form_of options.now []) row.now (name.entry.0.now ++ name.entry.1.now) }
 {
-    let found = find_column(options.separator, options.quotes, name, row);
+    let text = name_text(options.quotes, name);
+    let found = find_column(options.separator, options.quotes, text, row);
     matches!(found, Err(ColumnError::NotFound))
 }
 
-/// Whether no field of a header has the name of a new column as its text.
+/// Whether no field of a header has the text of the name of a new column.
 fn are_free(options: &RowOptions, name: &[u8], is_pair: bool, row: &[u8]) -> bool
     ensures { result ≡ list_all (is_free (columns_form options.now name.now is_pair) row.now)
         (columns_form options.now name.now is_pair).names }

@@ -2,7 +2,7 @@
 //! always.
 
 ghost use Rattle.h3_rows.specs.Areas.{AreasHaveCells, CellsHaveAreas, EntriesAreFields, NamesAreFields, NamesStandOnce, NumbersAreOfNames};
-ghost use Rattle.h3_rows.specs.Laws.{FieldsAreKept, HeaderStands, MarksAreKept, OutputReadsBack, PairsAreKept, RowsAreWhole, RowsGiveBack, RowsReadBack, RowsStand, RowsStandUntil};
+ghost use Rattle.h3_rows.specs.Laws.{FieldsAreKept, HeaderStands, MarksAreKept, OutputReadsBack, PairsAreKept, RowsAreWhole, RowsGiveBack, RowsReadBack, RowsStand, RowsStandUntil, TextsAreKept, TextsStandOnce, TextsStaySound};
 
 /// Each row is in the output whole, in order, with the answers to its own cell alone, up to the row that
 /// ends the answer; a header is before them whole, with the names of the new columns.
@@ -21,6 +21,15 @@ pub fn answers_stand_beside()
     ensures pairs { PairsAreKept }
     ensures back { RowsReadBack }
     ensures output { OutputReadsBack }
+{}
+
+/// A row with a text beside it stands once, whatever line feeds are between the text's quotes. If the
+/// text is one field, the fields of the row with it are those of the row and then the text. Sound
+/// quotes stay sound.
+pub fn texts_stand_beside()
+    ensures once { TextsStandOnce }
+    ensures kept { TextsAreKept }
+    ensures sound { TextsStaySound }
 {}
 
 /// Each cell of a table is in one of its areas, and has the number of that area's name; each area has a

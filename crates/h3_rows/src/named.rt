@@ -19,13 +19,13 @@ use crate::line::row_of;
 use crate::reading::{LONGEST, malformed};
 use crate::row::Row;
 use crate::state::first_state;
-use crate::table::{TableColumns, TableOptions, TableState};
+use crate::table::{TableColumns, TableState};
 use h3_index::Cell;
 use h3_lines::{
-    AnswerError, ColumnError, Job, MAX_READS, PAGE, RowError, RowFault, RunError, Taking, drive,
-    row_page,
+    AnswerError, ColumnError, Job, JobContract, MAX_READS, PAGE, RowError, RowFault, RunError,
+    drive, row_page,
 };
-use h3_requests::CellField;
+use h3_requests::{CellField, TableOptions};
 use h3_streams::{CountedReader, Source};
 use std::alloc::Global;
 
@@ -169,7 +169,7 @@ struct NamedRows<'f, V: NamedJob> {
     ghost few: { V.count job ≤ state.number },
 }
 
-impl<'f, V: NamedJob> Taking for NamedRows<'f, V> {
+impl<'f, V: NamedJob> JobContract for NamedRows<'f, V> {
     ghost longest = { LONGEST };
 
     ghost count = { λ v. v.state.number };

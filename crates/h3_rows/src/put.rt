@@ -12,6 +12,7 @@ ghost use Rattle.h3_rows.specs.RowForm.{columns_form};
 ghost use Rattle.h3_rows.specs.RowsAnswer.{columns_in, empty_answer, empty_step, error_field, free_columns, header_step, header_with, unanswered};
 
 use crate::fields::read_of;
+use crate::function::RowFunction;
 use crate::header::{Name, answer_names, error_name, free_columns};
 use crate::job::RowJob;
 use crate::row::Row;
@@ -21,7 +22,8 @@ use h3_lines::{ANSWER, AnswerError, BLOCK, RunError, write_all};
 use h3_requests::RowOptions;
 use h3_streams::Sink;
 
-/// Puts a row and a byte after it into a block from the byte `at` on, and returns where they end.
+/// Puts bytes, as those of a row, and one more into a block from the byte `at` on, and returns where
+/// they end.
 #[inline(always)]
 pub(crate) fn hold_row(block: &mut [u8; BLOCK], at: usize, row: &[u8], last: u8) -> usize
     requires { at + length row.now + 1 ≤ BLOCK }
@@ -153,7 +155,7 @@ fn put_name<W: Sink>(
 }
 
 /// Puts the names of the new columns, each after a separator.
-fn put_names<'f, W: Sink, F>(
+fn put_names<'f, W: Sink, F: RowFunction>(
     out: &mut W,
     block: &mut [u8; BLOCK],
     end: usize,
@@ -162,10 +164,10 @@ fn put_names<'f, W: Sink, F>(
     requires { end ≤ BLOCK }
     ensures within { IfOk result (λ last. last ≤ BLOCK) }
     ensures ok { IfOk result (λ last. Moves W.taken W.has_failed (take end block.old
-        ++ flat_map (λ n. job.now.options.now.separator ∷ n) (form_of_job job.now).names)
+        ++ flat_map (λ n. job.now.options.now.separator ∷ n) (form_of_job F.counts_quotes job.now).names)
         (take last block.new) out.old out.new) }
     ensures err { IfErr result (λ e. Breaks (take end block.old
-        ++ flat_map (λ n. job.now.options.now.separator ∷ n) (form_of_job job.now).names)
+        ++ flat_map (λ n. job.now.options.now.separator ∷ n) (form_of_job F.counts_quotes job.now).names)
         (sink_use W.taken W.has_failed out.old out.new) e) }
 {
     let separator = job.options.separator;
@@ -177,7 +179,7 @@ fn put_names<'f, W: Sink, F>(
 }
 
 /// Puts a header with the names of the new columns.
-fn put_named<'f, W: Sink, F>(
+fn put_named<'f, W: Sink, F: RowFunction>(
     out: &mut W,
     block: &mut [u8; BLOCK],
     end: usize,
@@ -187,10 +189,10 @@ fn put_named<'f, W: Sink, F>(
     requires { end ≤ BLOCK }
     ensures within { IfOk result (λ last. last ≤ BLOCK) }
     ensures ok { IfOk result (λ last. Moves W.taken W.has_failed (take end block.old
-        ++ header_with job.now.options.now.separator (line_of row.entry) (form_of_job job.now).names)
+        ++ header_with job.now.options.now.separator (line_of row.entry) (form_of_job F.counts_quotes job.now).names)
         (take last block.new) out.old out.new) }
     ensures err { IfErr result (λ e. Breaks (take end block.old
-        ++ header_with job.now.options.now.separator (line_of row.entry) (form_of_job job.now).names)
+        ++ header_with job.now.options.now.separator (line_of row.entry) (form_of_job F.counts_quotes job.now).names)
         (sink_use W.taken W.has_failed out.old out.new) e) }
 {
     let after_row = put_bytes(out, block, end, row.body)?;
@@ -208,7 +210,7 @@ fn empty_size(is_pair: bool) -> usize
 }
 
 /// Puts a row and an empty answer.
-fn put_empty_answer<'f, W: Sink, F>(
+fn put_empty_answer<'f, W: Sink, F: RowFunction>(
     out: &mut W,
     block: &mut [u8; BLOCK],
     end: usize,
@@ -218,10 +220,10 @@ fn put_empty_answer<'f, W: Sink, F>(
     requires { end ≤ BLOCK }
     ensures within { IfOk result (λ last. last ≤ BLOCK) }
     ensures ok { IfOk result (λ last. Moves W.taken W.has_failed (take end block.old
-        ++ (row.entry.body.now ++ (job.now.options.now.separator ∷ (form_of_job job.now).empty)))
+        ++ (row.entry.body.now ++ (job.now.options.now.separator ∷ (form_of_job F.counts_quotes job.now).empty)))
         (take last block.new) out.old out.new) }
     ensures err { IfErr result (λ e. Breaks (take end block.old
-        ++ (row.entry.body.now ++ (job.now.options.now.separator ∷ (form_of_job job.now).empty)))
+        ++ (row.entry.body.now ++ (job.now.options.now.separator ∷ (form_of_job F.counts_quotes job.now).empty)))
         (sink_use W.taken W.has_failed out.old out.new) e) }
 {
     let separator = job.options.separator;
@@ -256,7 +258,7 @@ fn put_error<W: Sink>(
 }
 
 /// Puts a row with an empty answer, and the name of an error, if there is a column for it.
-pub(crate) fn put_unanswered<'f, W: Sink, F>(
+pub(crate) fn put_unanswered<'f, W: Sink, F: RowFunction>(
     out: &mut W,
     block: &mut [u8; BLOCK],
     end: usize,
@@ -267,10 +269,10 @@ pub(crate) fn put_unanswered<'f, W: Sink, F>(
     requires { end ≤ BLOCK }
     ensures within { IfOk result (λ last. last ≤ BLOCK) }
     ensures ok { IfOk result (λ last. Moves W.taken W.has_failed
-        (take end block.old ++ unanswered (form_of_job job.now) (line_of row.entry) error.now)
+        (take end block.old ++ unanswered (form_of_job F.counts_quotes job.now) (line_of row.entry) error.now)
         (take last block.new) out.old out.new) }
     ensures err { IfErr result (λ e. Breaks
-        (take end block.old ++ unanswered (form_of_job job.now) (line_of row.entry) error.now)
+        (take end block.old ++ unanswered (form_of_job F.counts_quotes job.now) (line_of row.entry) error.now)
         (sink_use W.taken W.has_failed out.old out.new) e) }
 {
     let after_answer = put_empty_answer(out, block, end, job, row)?;
@@ -279,7 +281,7 @@ pub(crate) fn put_unanswered<'f, W: Sink, F>(
 }
 
 /// Puts a header with the names of the new columns, after the empty rows before it.
-pub(crate) fn put_header<'f, W: Sink, F>(
+pub(crate) fn put_header<'f, W: Sink, F: RowFunction>(
     out: &mut W,
     block: &mut [u8; BLOCK],
     end: usize,
@@ -293,15 +295,15 @@ pub(crate) fn put_header<'f, W: Sink, F>(
     ensures within { IfOk result (λ r. r.0 ≤ BLOCK) }
     ensures few { IfOk result (λ r. r.1.number ≤ state.number + length row.entry.body.now + 1) }
     ensures ok { IfOk result (λ r. StepsTo W.taken W.has_failed
-        (header_step (form_of_job job.now) (state_of state (take end block.old)) (line_of row.entry)
-        (free_columns (form_of_job job.now) (read_of state.number (row_body (line_of row.entry)))
-        (columns_in (form_of_job job.now) (read_of state.number (row_body (line_of row.entry))))))
+        (header_step (form_of_job F.counts_quotes job.now) (state_of state (take end block.old)) (line_of row.entry)
+        (free_columns (form_of_job F.counts_quotes job.now) (read_of state.number (row_body (line_of row.entry)))
+        (columns_in (form_of_job F.counts_quotes job.now) (read_of state.number (row_body (line_of row.entry))))))
         (state_of r.1 (take r.0 block.new)) (held_of state.columns (take end block.old))
         (held_of r.1.columns (take r.0 block.new)) out.old out.new) }
     ensures err { IfErr result (λ e. StepEnds
-        (header_step (form_of_job job.now) (state_of state (take end block.old)) (line_of row.entry)
-        (free_columns (form_of_job job.now) (read_of state.number (row_body (line_of row.entry)))
-        (columns_in (form_of_job job.now) (read_of state.number (row_body (line_of row.entry))))))
+        (header_step (form_of_job F.counts_quotes job.now) (state_of state (take end block.old)) (line_of row.entry)
+        (free_columns (form_of_job F.counts_quotes job.now) (read_of state.number (row_body (line_of row.entry)))
+        (columns_in (form_of_job F.counts_quotes job.now) (read_of state.number (row_body (line_of row.entry))))))
         (held_of state.columns (take end block.old)) e
         (sink_use W.taken W.has_failed out.old out.new)) }
 {

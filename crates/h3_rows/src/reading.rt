@@ -6,13 +6,13 @@ ghost use Rattle.h3_lines.specs.Pieces.{is_uncut};
 ghost use Rattle.h3_rows.specs.Line.{line_of};
 ghost use Rattle.h3_rows.specs.Row.{quotes_are_sound, read_of, row_body};
 ghost use Rattle.h3_rows.specs.RowForm.{form_of};
-ghost use Rattle.h3_rows.specs.RowsAnswer.{field_said, malformed, row_said, text_said};
+ghost use Rattle.h3_rows.specs.RowsAnswer.{field_cell, malformed, row_cell, text_cell};
 
 use crate::fields::{
     count_and_find, field_text, find_field, has_return, quotes_are_sound, read_of,
 };
 use crate::row::Row;
-use crate::said::Said;
+use crate::row_cell::RowCell;
 use crate::state::Columns;
 use h3_index::{is_blank_text, read_index};
 use h3_lines::RowFault;
@@ -27,12 +27,12 @@ pub(crate) const LONGEST: usize = 1_114_111;
 const LONGEST_ROW: usize = 1_048_575;
 
 /// What the text of a field says.
-fn text_said(text: &[u8]) -> Result<Said, RowFault>
-    ensures { result ≡ text_said text.now }
+fn text_cell(text: &[u8]) -> Result<RowCell, RowFault>
+    ensures { result ≡ text_cell text.now }
 {
     match read_index(text) {
-        Ok(index) => Ok(Said::Index(index)),
-        Err(_) if is_blank_text(text) => Ok(Said::Missing),
+        Ok(index) => Ok(RowCell::Index(index)),
+        Err(_) if is_blank_text(text) => Ok(RowCell::Missing),
         Err(_) => Err(RowFault::NotAnIndex),
     }
 }
@@ -89,11 +89,11 @@ pub(crate) fn malformed(
 
 /// What a field says, if there is one.
 #[inline(always)]
-fn field_said(quotes: bool, field: Option<&[u8]>) -> Result<Said, RowFault>
-    ensures { result ≡ field_said quotes (option_map (λ f. f.now) field.entry) }
+fn field_cell(quotes: bool, field: Option<&[u8]>) -> Result<RowCell, RowFault>
+    ensures { result ≡ field_cell quotes (option_map (λ f. f.now) field.entry) }
 {
     match field {
-        Some(field) => text_said(field_text(quotes, field)),
+        Some(field) => text_cell(field_text(quotes, field)),
         None => Err(RowFault::NoSuchField),
     }
 }
@@ -105,8 +105,8 @@ pub(crate) fn read_row(
     number: u64,
     columns: Columns,
     row: &[u8],
-) -> Result<Said, RowFault>
-    ensures { result ≡ row_said (form_of options.now name.now) number columns row.now }
+) -> Result<RowCell, RowFault>
+    ensures { result ≡ row_cell (form_of options.now name.now) number columns row.now }
 {
     let read = read_of(number, row);
     let Columns { before, width } = columns;
@@ -115,10 +115,10 @@ pub(crate) fn read_row(
         if count != width {
             return Err(RowFault::FieldCount(count as u64, width as u64));
         }
-        return field_said(options.quotes, field);
+        return field_cell(options.quotes, field);
     }
     let field = find_field(options.separator, options.quotes, before, read);
-    field_said(options.quotes, field)
+    field_cell(options.quotes, field)
 }
 
 /// How many line feeds are in a row.

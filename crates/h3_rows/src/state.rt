@@ -23,7 +23,7 @@ pub struct Columns {
 
 /// The first error after which a run went on.
 #[derive(Clone, Copy, Drop)]
-pub struct Kept {
+pub struct FirstError {
     /// The number of the row.
     pub number: u64,
 
@@ -44,7 +44,7 @@ pub struct RowState {
     pub columns: Option<Columns>,
 
     /// The first error after which the run went on.
-    pub kept: Option<Kept>,
+    pub kept: Option<FirstError>,
 
     ghost few: { more_kept kept ≤ number },
 }
@@ -86,12 +86,12 @@ impl RowState {
         ensures kept { result.kept ≡ Some (one_more self.number error self.kept) }
     {
         let kept = match self.kept {
-            None => Kept {
+            None => FirstError {
                 number: self.number,
                 error,
                 more: 0,
             },
-            Some(kept) => Kept {
+            Some(kept) => FirstError {
                 number: kept.number,
                 error: kept.error,
                 more: kept.more + 1,

@@ -1,26 +1,12 @@
-//! How a table is read in which one field has a cell, and another a name.
+//! How far a table is read in which one field has a cell, and another a name.
 
-ghost use Rattle.std.specs.Prelude.{◌≡◌, ◌≤◌, ◌<◌, ◌+◌, ◌^◌, length, true};
-ghost use Rattle.h3_requests.specs.Rows.{is_counted};
+ghost use Rattle.std.specs.Prelude.{◌≡◌, ◌≤◌, ◌<◌, ◌+◌, ◌^◌, length};
 ghost use Rattle.h3_rows.specs.Line.{line_of};
 ghost use Rattle.h3_rows.specs.Row.{next_number};
 
 use crate::reading::feeds;
 use crate::row::Row;
 use crate::state::Columns;
-use h3_requests::{CellField, RowOptions};
-
-/// How a table is read in which one field has a cell, and another a name.
-#[derive(Debug, Drop)]
-pub struct TableOptions {
-    /// How its rows are read, and which field has the cells.
-    pub rows: RowOptions,
-
-    /// Which field has the names.
-    pub name: CellField,
-
-    ghost counted: { is_counted name ≡ true },
-}
 
 /// Where a row's cell is, and its name.
 #[derive(Clone, Copy, Drop)]

@@ -1,6 +1,6 @@
 //! Rows that are written to a sink, with bytes held back in a block.
 
-ghost use Rattle.std.specs.Prelude.{◌≡◌, ◌≤◌, ◌<◌, ◌+◌, ◌++◌, ◌∷◌, length, replicate, take, IfOk, IfErr};
+ghost use Rattle.std.specs.Prelude.{◌≡◌, ◌≤◌, ◌<◌, ◌+◌, ◌++◌, ◌∷◌, false, length, replicate, take, IfOk, IfErr};
 ghost use Rattle.h3_lines.specs.Write.{sink_use};
 ghost use Rattle.h3_lines.specs.Answering.{Breaks, Moves};
 ghost use Rattle.h3_rows.specs.Line.{line_of};
@@ -141,10 +141,10 @@ pub(crate) fn put_rows<W: Sink>(
     requires { end ≤ BLOCK }
     ensures within { IfOk result (λ last. last ≤ BLOCK) }
     ensures ok { IfOk result (λ last. Moves W.taken W.has_failed
-        (take end block.old ++ rows_with separator after.now (line_of row.entry) text.now)
+        (take end block.old ++ rows_with separator false after.now (line_of row.entry) text.now)
         (take last block.new) out.old out.new) }
     ensures err { IfErr result (λ e. Breaks
-        (take end block.old ++ rows_with separator after.now (line_of row.entry) text.now)
+        (take end block.old ++ rows_with separator false after.now (line_of row.entry) text.now)
         (sink_use W.taken W.has_failed out.old out.new) e) }
 {
     let mut last = end;

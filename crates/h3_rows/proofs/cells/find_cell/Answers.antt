@@ -1,9 +1,9 @@
 use Rattle.std.proofs.Common.{◌≡◌, [], Ok, Err, None, false, true, sym, ap, ◌∙◌, refl}
-use Rattle.h3_rows.specs.Cells.{cell_said}
+use Rattle.h3_rows.specs.Cells.{cell_read}
 use Rattle.h3_rows.specs.Line.{line_of}
 use Rattle.h3_rows.specs.Row.{is_empty_row, read_of, row_body}
 use Rattle.h3_rows.specs.RowForm.{form_of}
-use Rattle.h3_rows.specs.RowsAnswer.{columns_in, malformed, row_said}
+use Rattle.h3_rows.specs.RowsAnswer.{columns_in, malformed, row_cell}
 use Rattle.h3_rows.proofs.Returns.{body_of_row}
 use Rattle.h3_rows.proofs.cells.find_cell.Goals as goal
 
@@ -47,7 +47,7 @@ returns-in-Ok-read_cell-clause-ok c =
     let sound : malformed form c.args.state.number (line_of r, c.args.inside) ≡ None = sym c.malformed.ensures ∙ c.in_default.is in
     let read : read_of c.args.state.number (row_body (line_of r)) ≡ c.read_of-read.result.now = ap (read_of c.args.state.number) body ∙ sym c.read_of-read.ensures in
     let filled : is_empty_row c.args.state.number (row_body (line_of r)) ≡ false = rw read (sym c.is_empty.ensures ∙ c.if-is_empty.false) in
-    let cell : cell_said (row_said form c.args.state.number c.in-Some-columns.columns (row_body (line_of r))) ≡ Ok c.in-Ok-read_cell.cell = ap (λ l. cell_said (row_said form c.args.state.number c.in-Some-columns.columns l)) body ∙ sym c.read_cell.ensures ∙ c.in-Ok-read_cell.is in
+    let cell : cell_read (row_cell form c.args.state.number c.in-Some-columns.columns (row_body (line_of r))) ≡ Ok c.in-Ok-read_cell.cell = ap (λ l. cell_read (row_cell form c.args.state.number c.in-Some-columns.columns l)) body ∙ sym c.read_cell.ensures ∙ c.in-Ok-read_cell.is in
     rw (sound, filled, c.passed-in-Ok-read_cell.ensures.columns, c.in-Some-columns.is, cell) refl
 
 pub returns-in-Err-read_cell-clause-err : goal.returns-in-Err-read_cell-clause-err
@@ -58,5 +58,5 @@ returns-in-Err-read_cell-clause-err c =
     let sound : malformed form c.args.state.number (line_of r, c.args.inside) ≡ None = sym c.malformed.ensures ∙ c.in_default.is in
     let read : read_of c.args.state.number (row_body (line_of r)) ≡ c.read_of-read.result.now = ap (read_of c.args.state.number) body ∙ sym c.read_of-read.ensures in
     let filled : is_empty_row c.args.state.number (row_body (line_of r)) ≡ false = rw read (sym c.is_empty.ensures ∙ c.if-is_empty.false) in
-    let cell : cell_said (row_said form c.args.state.number c.in-Some-columns.columns (row_body (line_of r))) ≡ Err c.in-Err-read_cell.error = ap (λ l. cell_said (row_said form c.args.state.number c.in-Some-columns.columns l)) body ∙ sym c.read_cell.ensures ∙ c.in-Err-read_cell.is in
+    let cell : cell_read (row_cell form c.args.state.number c.in-Some-columns.columns (row_body (line_of r))) ≡ Err c.in-Err-read_cell.error = ap (λ l. cell_read (row_cell form c.args.state.number c.in-Some-columns.columns l)) body ∙ sym c.read_cell.ensures ∙ c.in-Err-read_cell.is in
     rw (sound, filled, c.in-Some-columns.is, cell) refl

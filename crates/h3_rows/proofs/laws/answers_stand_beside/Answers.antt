@@ -1,4 +1,4 @@
-use Rattle.h3_rows.proofs.Kept.{fields_are_kept, pairs_are_kept, rows_are_whole}
+use Rattle.h3_rows.proofs.CutAgain.{fields_are_kept, pairs_are_kept, rows_are_whole}
 use Rattle.h3_rows.proofs.Marks.{marks_are_kept}
 use Rattle.h3_rows.proofs.ReadBack.{output_reads_back, rows_read_back}
 use Rattle.h3_rows.proofs.Stand.{header_stands, rows_give_back, rows_stand, rows_stand_until}

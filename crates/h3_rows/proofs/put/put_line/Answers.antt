@@ -3,7 +3,7 @@ use Rattle.std.proofs.lemmas.Result.{err_from_is_err_and, IfErr-weaker, IfOk-wea
 use Rattle.h3_lines.specs.Write.{sink_use}
 use Rattle.h3_rows.specs.Line.{line_of}
 use Rattle.h3_rows.specs.Row.{row_ending}
-use Rattle.h3_rows.proofs.Kept.{rows_are_whole}
+use Rattle.h3_rows.proofs.CutAgain.{rows_are_whole}
 use Rattle.h3_rows.proofs.Parts.{breaks_first, breaks_last, moves_two}
 use Rattle.h3_rows.proofs.Returns.{body_of_row}
 use Rattle.h3_rows.proofs.put.put_line.Goals as goal

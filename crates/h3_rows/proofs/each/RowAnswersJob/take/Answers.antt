@@ -10,7 +10,7 @@ pub returns-in_err-end-clause-err : goal.returns-in_err-end-clause-err
 returns-in_err-end-clause-err g c =
     let p = err_from_is_err_and c.from_residual.result c.from_residual.ensures.1 in
     let v = c.args.self.now in
-    let form = form_of_job v.job.now in
+    let form = form_of_job g.F.RowFunction.counts_quotes v.job.now in
     let answer = g.F.RowFunction.answer_of v.job.now.function.now in
     let step = row_step form answer (state_of v.state (take v.end v.block)) (c.args.row.now, c.args.inside) in
     let ends = rw c.row_of-row.ensures at c.in_err-end.ensures.err in

@@ -28,7 +28,7 @@ slice_bounds-result-start g c =
 pub returns-in-Some-put_plain-clause-some : goal.returns-in-Some-put_plain-clause-some
 returns-in-Some-put_plain-clause-some g c =
     let v = c.args.self.now in
-    let form = form_of_job v.job.now in
+    let form = form_of_job g.F.RowFunction.counts_quotes v.job.now in
     let answer = g.F.RowFunction.answer_of v.job.now.function.now in
     let size = c.in-Some-put_plain.size in
     let returns = c.in-Some-put_plain.returns in

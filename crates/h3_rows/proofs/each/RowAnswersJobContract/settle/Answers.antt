@@ -1,7 +1,7 @@
 use Rattle.std.proofs.Common.{refl, take}
 use Rattle.h3_lines.specs.EachLaws.{answered_none}
 use Rattle.h3_rows.proofs.Steps.{settled_moves}
-use Rattle.h3_rows.proofs.each.RowAnswersTaking.settle.Goals as goal
+use Rattle.h3_rows.proofs.each.RowAnswersJobContract.settle.Goals as goal
 
 pub returns-in-None-clause-ok : goal.returns-in-None-clause-ok
 returns-in-None-clause-ok g c = (answered_none g.W.Sink.taken g.W.Sink.has_failed _ _ _ _, refl, refl, refl)

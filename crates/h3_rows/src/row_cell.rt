@@ -2,7 +2,7 @@
 
 /// What a row says of its cell.
 #[derive(Clone, Copy, Drop)]
-pub enum Said {
+pub enum RowCell {
     /// Its text is blank.
     Missing,
 

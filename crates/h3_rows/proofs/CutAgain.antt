@@ -11,7 +11,7 @@ use Rattle.h3_lines.specs.PiecesLaws.{and_false, cut_at_end, first_piece}
 with_first-append : (b : ℕ) (ps qs : List Piece) (p : Piece) (more : List Piece) → ps ≡ p ∷ more → with_first b (ps ++ qs) ≡ with_first b ps ++ qs
 with_first-append b ps qs p more is = rw is refl
 
-both_true : (x y : Bool) → (x && y) ≡ true → (x ≡ true) × (y ≡ true)
+pub both_true : (x y : Bool) → (x && y) ≡ true → (x ≡ true) × (y ≡ true)
 both_true true y h = (refl, h)
 both_true false y h = absurd (cc)
 
