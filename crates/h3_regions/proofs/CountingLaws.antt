@@ -86,14 +86,14 @@ module _ (found : AncestorsAreFound) (list cells : List Address) (counts : List 
 
 -- ---- one cell more
 
-take_all_of : (cells more : List Address) → take (length cells) (cells ++ more) ≡ cells
+pub take_all_of : (cells more : List Address) → take (length cells) (cells ++ more) ≡ cells
 take_all_of [] more = refl
 take_all_of (x ∷ cells) more = ap (λ l. x ∷ l) (take_all_of cells more)
 
-all_of_one : (cells : List Address) (x : Address) → take (length cells + 1) (cells ++ x ∷ []) ≡ cells ++ x ∷ []
+pub all_of_one : (cells : List Address) (x : Address) → take (length cells + 1) (cells ++ x ∷ []) ≡ cells ++ x ∷ []
 all_of_one cells x = take_all (length cells + 1) (cells ++ x ∷ []) (omega (arith, length-append cells (x ∷ [])))
 
-at_end : (cells : List Address) (x : Address) → x ≡ get_or (cells ++ x ∷ []) (length cells) x
+pub at_end : (cells : List Address) (x : Address) → x ≡ get_or (cells ++ x ∷ []) (length cells) x
 at_end [] x = refl
 at_end (y ∷ cells) x = at_end cells x
 

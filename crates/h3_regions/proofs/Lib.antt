@@ -2,6 +2,7 @@ pub mod AddingLaws
 pub mod AlgebraLaws
 pub mod ApartLaws
 pub mod AreaCountingLaws
+pub mod AreaNextLaws
 pub mod AreaSumLaws
 pub mod ClashLaws
 pub mod CoarsestLaws

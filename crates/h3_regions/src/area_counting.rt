@@ -1,8 +1,9 @@
 //! Counts of cells by the areas that they lie in.
 
-ghost use Rattle.std.specs.Prelude.{ℕ, ◌≡◌, ◌≢◌, ◌+◌, ◌-◌, ◌^◌, ◌<◌, ◌≤◌, All, AllPairs, Contains, length, map, slice_index_or, sum};
+ghost use Rattle.std.specs.Prelude.{ℕ, ◌≡◌, ◌≢◌, ◌+◌, ◌-◌, ◌^◌, ◌<◌, ◌≤◌, ◌++◌, ◌∷◌, [], List, All, AllPairs, Contains, length, map, slice_index_or, sum};
 ghost use Rattle.std.specs.List.{range_with_len};
-ghost use Rattle.h3_regions.specs.AreaCounting.{count_in_area, count_in_none};
+ghost use Rattle.h3_index.specs.Cell.{Address};
+ghost use Rattle.h3_regions.specs.AreaCounting.{AreAreaCounts, count_in_area, count_in_none};
 ghost use Rattle.h3_regions.specs.AreaLaws.{AreaCountsInParts};
 
 use crate::apart::ApartAreas;
@@ -38,6 +39,38 @@ pub fn count_in_areas(areas: &ApartAreas, cells: &[Cell], counts: &mut [u64]) ->
         }
     }
     none
+}
+
+/// Counts one cell more, after those of a list: adds one to the count of its area, or returns one more
+/// than `none` if it lies in none. So a list can be counted cell by cell, as it is read: from zeros, and
+/// none.
+///
+/// Its area is looked for from a place on, which may be any, and which is then where the next cell may
+/// be looked for, as by `ApartAreas::area_near`.
+///
+/// Each area's number must be less than the number of counts, and fewer cells counted than a `u64` can
+/// say.
+pub fn count_next_in_areas(
+    areas: &ApartAreas,
+    cell: Cell,
+    counts: &mut [u64],
+    none: u64,
+    place: &mut usize,
+) -> u64
+    requires small { All (λ p. p.1 < length counts.old) areas.now }
+    requires few { sum counts.old + none < 2 ^ 64 - 1 }
+    ensures next { (cells : List Address) → AreAreaCounts areas.now cells counts.old none
+        → AreAreaCounts areas.now (cells ++ cell ∷ []) counts.new result }
+    ensures one { sum counts.new + result ≡ sum counts.old + none + 1 }
+{
+    coverages_decide_lists();
+    match areas.area_near(cell, place) {
+        Some(area) => {
+            counts[area as usize] += 1;
+            none
+        }
+        None => none + 1,
+    }
 }
 
 /// Adds one to the count of each of some numbers.

@@ -21,7 +21,7 @@ mod zones;
 
 pub use ahead::AHEAD;
 pub use apart::{ApartAreas, RefusedAreas};
-pub use area_counting::{count_in_areas, count_in_overlapping_areas};
+pub use area_counting::{count_in_areas, count_in_overlapping_areas, count_next_in_areas};
 pub use areas::Areas;
 pub use counting::{count, count_indexed, count_next, count_of};
 pub use difference::subtract;
