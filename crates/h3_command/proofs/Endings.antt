@@ -24,10 +24,13 @@ use Rattle.h3_lines.specs.declared.run_error.RunError.{RunError}
 use Rattle.h3_lines.specs.declared.run_error.RunError.TheVariants.{Error, Fault}
 use Rattle.h3_lines.specs.Write.{IsLeft, Reports, SinkUse, Writes}
 use Rattle.h3_command.specs.Answer.{Request, about_list, about_numbered_list, about_rows, about_table, answer_or_error_at, with_table, unless_faulty}
+use Rattle.h3_command.specs.Areas.{areas_of_file}
 use Rattle.h3_command.specs.Files.{file_cells, unless_refused}
-use Rattle.h3_command.specs.Answer.Request.{of_file_and_lines, of_file_and_list, of_lines, of_list, of_numbered_list, of_table, of_table_and_lines, plain}
-use Rattle.h3_command.specs.Run.{Answers, Ends, EndsLines, EndsList, EndsNumberedList, Gives, IsReadSoFar, IsReadWhole, ReadFails, RefusesFile, RefusesInput, RefusesTableFile, Runs, RunsOutOfMemory, Streams, WritesOfList, WritesOfNumberedList, WritesOfRows, WritesReading}
+use Rattle.h3_command.specs.Answer.Request.{of_areas_and_lines, of_areas_and_list, of_file_and_lines, of_file_and_list, of_lines, of_list, of_numbered_list, of_table, of_table_and_lines, plain}
+use Rattle.h3_command.specs.Run.{Answers, Ends, EndsLines, EndsList, EndsNumberedList, Gives, IsReadSoFar, IsReadWhole, ReadFails, RefusesAreas, RefusesFile, RefusesInput, RefusesTableFile, Runs, RunsOutOfMemory, Streams, WritesOfList, WritesOfNumberedList, WritesOfRows, WritesReading}
 use Rattle.h3_rows.specs.Each.{EndsRows}
+use Rattle.h3_rows.specs.Named.{Entry}
+use Rattle.h3_rows.specs.Named.{Table as NamedTable}
 use Rattle.h3_rows.specs.Cells.{RefusesRows}
 use Rattle.h3_rows.specs.RowsAnswer.{Form, begun_answer, rows_answer}
 use Rattle.h3_rows.specs.RowsAnswer.{list_answer as row_answers}
@@ -91,7 +94,7 @@ list_written about cells input ending out told writes = (
   read_whole _ told.list cells input ending out told.is writes told.whole,
 )
 
--- ---- a list whose faulty line is told with its number
+-- ---- a list whose faulty line is reported with its number
 
 -- an error in place of an answer is written
 error_written : (e : AnswerError) (out : SinkUse) → IsLeft out → Writes (record { output = []; ending = Err e }) (Err (Error e)) out
@@ -147,7 +150,7 @@ rows_unread : (form : Form) (input : SourceUse) → NoReadFails input → input.
 rows_unread form input sound alone =
     let (bytes, held) = some_left input.left in
     let told = subst (λ after. Consumes input.left after []) (sym alone) (Consumes-nil input.left) in
-    (sound, record { part = []; last = []; rest = bytes; held = held; told = told; short = omega arith; ended = []; unended = ([], false); rows = refl; begun = omega arith; cells = []; good = refl })
+    (sound, record { part = []; last = []; rest = bytes; held = held; consumed = told; short = omega arith; within = omega arith; ended = []; unended = ([], false); rows = refl; begun = omega arith; cells = []; good = refl })
 
 -- there is no memory before any of a list is read, bare or of rows
 pub list_unread : (form : Option Form) (about : List Address → Answer) (input : SourceUse) (out : SinkUse) → NoReadFails input → input.left_after ≡ input.left → IsLeft out → EndsNumberedList form about input (Err (Fault Memory)) out
@@ -269,7 +272,7 @@ gives_rows : (form : Form) (about : Option ℕ → Answer) (ending : Result (Uni
     → (list : List ℕ) × HasLeft s.input.left list × ((ReadFails s.input list → ⊥) → s.out.has_failed ≡ false → Gives (row_answers form about list) status s ⊎ RunsOutOfMemory status s)
 gives_rows form about (Ok u) status s (sound, all) reports = (all.list, all.held, λ r w. inl (gives_written (row_answers form about all.list) (Ok u) status s all.writes w reports))
 gives_rows form about (Err (Error e)) status s (sound, inl (all, good)) reports = (all.list, all.held, λ r w. inl (gives_written (row_answers form about all.list) (Err (Error e)) status s all.writes w reports))
-gives_rows form about (Err (Error e)) status s (sound, inr (stop, writes)) reports =
+gives_rows form about (Err (Error e)) status s (sound, inr ((stop, writes), of_row)) reports =
     (stop.part ++ stop.last ++ stop.rest, stop.held, λ r w. inl (gives_written (row_answers form about (stop.part ++ stop.last ++ stop.rest)) (Err (Error e)) status s writes w reports))
 gives_rows form about (Err (Fault Write)) status s (sound, inl (all, good)) reports = (all.list, all.held, λ r w. inl (gives_written (row_answers form about all.list) (Err (Fault Write)) status s all.writes w reports))
 gives_rows form about (Err (Fault Write)) status s (sound, inr (stop, takes)) reports = (stop.part ++ stop.last ++ stop.rest, stop.held, λ r w. absurd (cc (takes.failed, w)))
@@ -315,7 +318,7 @@ gives_list : (form : Option Form) (about : List Address → Answer) (ending : Re
 gives_list None about ending status s (list, held, writes, so_far) reports = (list, held, λ r w. gives_reading _ list _ s.input ending status s writes r w reports)
 gives_list (Some form) about ending status s ends reports = gives_cells form about ending status s ends reports
 
--- the same, where the error of a faulty line is told with its number
+-- the same, where the error of a faulty line is reported with its number
 gives_numbered_list : (form : Option Form) (about : List Address → Answer) (ending : Result (Unit {0}) RunError) (status : ℕ) (s : Streams) → EndsNumberedList form about s.input ending s.out → Reports ending status s.err
     → (list : List ℕ) × HasLeft s.input.left list × ((ReadFails s.input list → ⊥) → s.out.has_failed ≡ false → Gives (about_numbered_list form about list) status s ⊎ RunsOutOfMemory status s)
 gives_numbered_list None about ending status s (list, held, writes, so_far) reports = (list, held, λ r w. gives_reading _ list _ s.input ending status s writes r w reports)
@@ -423,6 +426,64 @@ table_answers form about ending status s (bytes, held, inl (link, gives, ends)) 
           (with_memory true refl (given (none.list_read (read_after_table bytes gives.accepted)) none.answer_written)));
     }
 
+-- a table of zones with names that is refused, or not read to its end
+gives_refused_areas : (table : NamedTable) (about : List Entry → Answer) (bytes : List ℕ) (ending : Result (Unit {0}) RunError) (status : ℕ) (s : Streams) → RefusesAreas table bytes s.table ending → IsLeft s.out → (ReadFails s.table bytes → ⊥)
+    → Reports ending status s.err → Gives (unless_refused about (areas_of_file table bytes)) status s ⊎ RunsOutOfMemory status s
+gives_refused_areas table about bytes (Ok u) status s never left r reports = absurd never
+gives_refused_areas table about bytes (Err (Error e)) status s (is, sound, told) left r reports = inl (subst (λ c. Gives (unless_refused about c) status s) (sym is) (record { output = (nothing _ _ left.0, left.1); report = reports }))
+gives_refused_areas table about bytes (Err (Fault Memory)) status s told left r reports = inr (record { output = left; report = reports })
+gives_refused_areas table about bytes (Err (Fault Read)) status s (fails, told) left r reports = absurd (r fails)
+gives_refused_areas table about bytes (Err (Fault Write)) status s never left r reports = absurd never
+
+-- the list is read after a table of zones that has these names
+read_after_areas : (table : NamedTable) (bytes : List ℕ) (entries : List Entry) → areas_of_file table bytes ≡ Ok entries → IsTrue (is_ok (areas_of_file table bytes))
+read_after_areas table bytes entries is = ap is_ok is
+
+areas_answers : (table : NamedTable) (form : List Entry → Option Form) (about : List Entry → Option ℕ → Answer) (ending : Result (Unit {0}) RunError) (status : ℕ) (s : Streams)
+    → Ends (of_areas_and_lines table form about) s.input s.table ending s.out → Reports ending status s.err → Answers (of_areas_and_lines table form about) status s
+areas_answers table form about ending status s (bytes, held, inr (refuses, alone, left)) reports =
+    let (list, known) = some_left s.input.left in
+    record {
+      list = list;
+      file = bytes;
+      list_is = known;
+      file_is = held;
+      given = λ none. with_memory true refl (gives_refused_areas table (λ entries. listed_answer (form entries) (about entries) list) bytes ending status s refuses left (none.table_read refl) reports);
+    }
+areas_answers table form about ending status s (bytes, held, inl (entries, gives, ends)) reports =
+    let (list, known, given) = gives_lines (form entries) (about entries) ending status s ends reports in
+    record {
+      list = list;
+      file = bytes;
+      list_is = known;
+      file_is = held;
+      given = λ none. subst (λ c. Gives (unless_refused (λ entries. listed_answer (form entries) (about entries) list) c) status s ⊎ (IsTrue true × RunsOutOfMemory status s)) (sym gives.is)
+          (with_memory true refl (given (none.list_read (read_after_areas table bytes entries gives.is)) none.answer_written));
+    }
+
+-- the same where the cells of the list are answered as a whole
+area_list_answers : (table : NamedTable) (form : Option Form) (about : List Entry → List Address → Answer) (ending : Result (Unit {0}) RunError) (status : ℕ) (s : Streams)
+    → Ends (of_areas_and_list table form about) s.input s.table ending s.out → Reports ending status s.err → Answers (of_areas_and_list table form about) status s
+area_list_answers table form about ending status s (bytes, held, inr (refuses, alone, left)) reports =
+    let (list, known) = some_left s.input.left in
+    record {
+      list = list;
+      file = bytes;
+      list_is = known;
+      file_is = held;
+      given = λ none. with_memory true refl (gives_refused_areas table (λ entries. about_numbered_list form (about entries) list) bytes ending status s refuses left (none.table_read refl) reports);
+    }
+area_list_answers table form about ending status s (bytes, held, inl (entries, gives, ends)) reports =
+    let (list, known, given) = gives_numbered_list form (about entries) ending status s ends reports in
+    record {
+      list = list;
+      file = bytes;
+      list_is = known;
+      file_is = held;
+      given = λ none. subst (λ c. Gives (unless_refused (λ entries. about_numbered_list form (about entries) list) c) status s ⊎ (IsTrue true × RunsOutOfMemory status s)) (sym gives.is)
+          (with_memory true refl (given (none.list_read (read_after_areas table bytes entries gives.is)) none.answer_written));
+    }
+
 answers : (r : Request) (ending : Result (Unit {0}) RunError) (status : ℕ) (s : Streams) → Ends r s.input s.table ending s.out → Reports ending status s.err → Answers r status s
 answers (plain a) ending status s writes reports =
     let (list, held) = some_left s.input.left in
@@ -452,6 +513,8 @@ answers (of_table about) ending status s (file, held, writes, whole) reports =
 answers (of_file_and_list f rows form about) ending status s ends reports = list_answers f rows form about ending status s ends reports
 answers (of_file_and_lines f rows form about) ending status s ends reports = lines_answers f rows form about ending status s ends reports
 answers (of_table_and_lines form about) ending status s ends reports = table_answers form about ending status s ends reports
+answers (of_areas_and_lines table form about) ending status s ends reports = areas_answers table form about ending status s ends reports
+answers (of_areas_and_list table form about) ending status s ends reports = area_list_answers table form about ending status s ends reports
 
 -- a run ends so, and reports it
 pub run_meets_contract : (r : Request) (ending : Result (Unit {0}) RunError) (status : ℕ) (s : Streams) → Ends r s.input s.table ending s.out → Reports ending status s.err → Runs r status s

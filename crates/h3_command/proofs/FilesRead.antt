@@ -36,7 +36,7 @@ taken_whole (Some xs) (Some ys) bytes list held told known =
 
 table_whole : (form : Form) (cells : Result (List Address) AnswerError) (file : SourceUse)
     → AllRowsRead form cells file.left file.left_after → IsReadToEnd file
-table_whole form cells file all list known = taken_whole file.left file.left_after all.list list all.held all.told known
+table_whole form cells file all list known = taken_whole file.left file.left_after all.list list all.held all.consumed known
 
 -- ---- a file that has cells
 

@@ -1,11 +1,16 @@
+pub mod AreasAnswered
+pub mod AreasCounted
+pub mod AreasRead
 pub mod Combined
 pub mod CountPasses
+pub mod CountRows
 pub mod EdgeLines
 pub mod Endings
 pub mod FilesRead
+pub mod Joining
 pub mod ListedCells
 pub mod NewColumns
 pub mod PrintedCounts
 pub mod SiblingGroups
-pub mod Written
 pub mod WholeWalks
+pub mod Written

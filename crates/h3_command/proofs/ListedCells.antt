@@ -47,7 +47,7 @@ pub list_unanswered : (form : Option Form) (about : List Address → Answer) (in
 list_unanswered None about input e out refused left = list_refused about input e out refused left
 list_unanswered (Some form) about input e out refused left = inr (refused, left)
 
--- the same two, where the error of a faulty line is told with its number
+-- the same two, where the error of a faulty line is reported with its number
 pub numbered_ends : (form : Option Form) (about : List Address → Answer) (cells : List Address) (input : SourceUse) (ending : Result (Unit {0}) RunError) (out : SinkUse)
     → GivesCells form input cells → WritesUnlessMemory (about cells) ending out → EndsNumberedList form about input ending out
 numbered_ends None about cells input ending out given (inl writes) = numbered_written about cells input ending out given writes

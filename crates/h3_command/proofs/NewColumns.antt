@@ -1,5 +1,5 @@
 -- What stands in the new column of rows.
-use Rattle.std.proofs.Common.{◌≡◌, ℕ, zero, suc, ◌/◌, ◌%◌, ◌<◌, ◌==◌, nat_le, Bool, true, false, not, ◌&&◌, ◌||◌, List, [], ◌∷◌, ◌++◌, All, map, codes, decimal, Option, None, Some, Result, Ok, Err, if◌then◌else◌, sym, ap, ◌∙◌, refl, append_assoc, append-nil, arith, inl, inr}
+use Rattle.std.proofs.Common.{◌≡◌, ℕ, zero, suc, ◌/◌, ◌%◌, ◌<◌, ◌==◌, nat_le, Bool, true, false, not, ◌&&◌, ◌||◌, List, [], ◌∷◌, ◌++◌, All, map, codes, decimal, get_or, string_bytes, unwrap_or, eq-eqb, subst, Option, None, Some, Result, Ok, Err, if◌then◌else◌, sym, ap, ◌∙◌, refl, append_assoc, append-nil, arith, inl, inr}
 use Rattle.std.proofs.lemmas.Bool.Decides.{nat_tests}
 use Rattle.std.proofs.lemmas.List.Elements.{All-cons, All-head, All-map, All-nil, All-tail}
 use Rattle.std.proofs.lemmas.List.Folds.{flat_map-map, list_all-append, list_all-map}
@@ -10,7 +10,6 @@ use Rattle.std.specs.List.{flat_map, list_all}
 use Rattle.h3_index.specs.Cell.{Address, number_of}
 use Rattle.h3_index.specs.Digits.{last_digits}
 use Rattle.h3_index.specs.Edge.{DirectedEdge, edge_number}
-use Rattle.h3_index.specs.Text.{text_of, without_leading_zeros}
 use Rattle.h3_index.specs.Error.{error_name}
 use Rattle.h3_index.specs.declared.error.H3Error.{H3Error}
 use Rattle.h3_index.specs.declared.error.H3Error.TheVariants.{Failed, Domain, ResDomain, CellInvalid, DirEdgeInvalid, Pentagon, DuplicateInput, NotNeighbors, ResMismatch, MemoryAlloc}
@@ -27,17 +26,28 @@ use Rattle.h3_lines.specs.Answer.{Answer, answer_or_error, cell_line, cell_lines
 use Rattle.h3_lines.specs.RunError.{row_error_name}
 use Rattle.h3_lines.specs.declared.run_error.RowError.{RowError}
 use Rattle.h3_lines.specs.declared.run_error.RowError.TheVariants as of_row
-use Rattle.h3_requests.specs.Rows.{is_separator}
 use Rattle.h3_requests.specs.declared.command.IndexFunction.{IndexFunction}
 use Rattle.h3_requests.specs.declared.command.Command.TheVariants as command
 use Rattle.h3_rows.specs.Laws.{FieldsAreKept, PairsAreKept}
-use Rattle.h3_lines.specs.Pieces.{Piece, cut, inside_after, is_uncut, turned, with_first}
+use Rattle.h3_lines.specs.Pieces.{Piece, Uncut, cut, inside_after, is_uncut, turned, with_first}
 use Rattle.h3_rows.specs.RowsAnswer.{each_with, row_with}
-use Rattle.h3_command.specs.Answer.{answer_for, shown, with_table}
+use Rattle.h3_index.specs.Text.{is_blank, text_of, without_leading_blanks, without_leading_zeros}
+use Rattle.h3_requests.specs.declared.rows.RowOptions.{RowOptions}
+use Rattle.h3_rows.specs.Areas.{EntriesAreFields, IsOneField, NamesAreFields, area_cells, area_names, title_after, title_with}
+use Rattle.h3_rows.specs.Row.{is_read_alike, opens_well, quotes_are_sound}
+use Rattle.h3_rows.specs.Named.{Entry, table_of}
+use Rattle.h3_regions.specs.Areas.{areas_of}
+use Rattle.h3_regions.specs.Refusals.{areas_refusal}
+use Rattle.h3_requests.specs.Rows.{is_plain_field, is_separator}
+use Rattle.h3_requests.specs.declared.rows.AreaOptions.{AreaOptions}
+use Rattle.h3_requests.specs.declared.rows.Tables.{Tables}
+use Rattle.h3_lines.specs.declared.run_error.AnswerError.{AnswerError}
+use Rattle.h3_command.specs.Answer.{answer_for, counts_request, shown, with_table, zones_request}
+use Rattle.h3_command.specs.Areas.{area_answer, areas_of_file, entries_of_table, judged_areas, name_line, name_or, unless_overlapping}
 use Rattle.h3_command.specs.Files.{cell_to_zone, is_covered_cell}
 use Rattle.h3_command.specs.Required.{cell_given, edge_given, index_given}
 use Rattle.h3_command.specs.LongAnswers.{between_parts, whole_walk}
-use Rattle.h3_command.specs.NewColumns.{AnswersAreWords, AnswersBy, AreAnswerLines, AreLinesOf, ErrorNamesAreFields, ErrorNamesAreKept, IsPairOfWords, IsWord, RowsStandOnce, WordPairsAreKept, WordPairsAreUncut, WordsAreFields, WordsAreKept, is_lower_or_digit, is_plain}
+use Rattle.h3_command.specs.NewColumns.{AnswersAreWords, AnswersBy, AreAnswerLines, AreLinesOf, ErrorNamesAreFields, ErrorNamesAreKept, IsField, IsPairOfWords, IsWord, IsZoneLine, NamesAreKept, RowsStandOnce, TitlesAreFields, WordPairsAreKept, WordPairsAreUncut, WordsAreFields, WordsAreKept, is_lower_or_digit, is_plain}
 use Rattle.h3_command.specs.TableLists.{destination_of}
 
 -- ---- words
@@ -151,23 +161,6 @@ one_query : {A : Type 0} (Is : Answer → Type 0) (about : A → Links → Answe
 one_query Is about (Ok v) = tt
 one_query Is about (Err e) = tt
 
-pub answers_are_words : AnswersAreWords
-answers_are_words tables command.AreCoveredCells = λ cells index. printed_lines IsWord truth_line (is_covered_cell (compacted cells) index) truth_lines
-answers_are_words tables command.CellsToZones = λ zones index. printed_lines IsWord zone_line (cell_to_zone zones index) zone_lines
-answers_are_words tables (command.GridDiskUnsafe cell k) = one_query (AreAnswerLines IsWord) (λ c link. answer_or_error (walked cell_line) (grid_disk_unsafe link c k)) (cell_given cell)
-answers_are_words tables (command.GridDiskDistancesUnsafe cell k) = one_query (AreAnswerLines IsWord) (λ c link. answer_or_error (walked ring_line) (grid_disk_distances_unsafe link c k)) (cell_given cell)
-answers_are_words tables (command.GridRingUnsafe cell k) = one_query (AreAnswerLines IsWord) (λ c link. answer_or_error (walked cell_line) (grid_ring_unsafe link c k)) (cell_given cell)
-answers_are_words tables (command.AreNeighborCells cell to) = one_query (AreAnswerLines IsWord) (λ cells link. printed truth_line (are_neighbor_cells link cells)) (pair_of (cell_given cell) (cell_given to))
-answers_are_words tables (command.CellsToDirectedEdge cell to) = one_query (AreAnswerLines IsWord) (λ cells link. printed edge_line (cells_to_directed_edge link cells)) (pair_of (cell_given cell) (cell_given to))
-answers_are_words tables (command.GetDirectedEdgeDestination edge) = one_query (AreAnswerLines IsWord) (λ e link. printed cell_line (get_directed_edge_destination link e)) (edge_given edge)
-answers_are_words tables (command.CellsToChildren res) = λ index. printed_lines IsWord cell_lines (for_value (λ h. cell_to_children h res) (index_given index)) lines_of_cells
-answers_are_words tables (command.GridDisksUnsafe k) = λ link index. printed_lines IsWord cell_lines (for_value (λ c. whole_walk (grid_disk_unsafe link c k)) (cell_given index)) lines_of_cells
-answers_are_words tables (command.GridDisksDistancesUnsafe k) = λ link index. printed_lines (IsPairOfWords (between_parts tables.list)) (flat_map (ring_line_by (between_parts tables.list))) (for_value (λ c. whole_walk (grid_disk_distances_unsafe link c k)) (cell_given index)) (lines_of_rings (between_parts tables.list))
-answers_are_words tables (command.GridRingsUnsafe k) = λ link index. printed_lines IsWord cell_lines (for_value (λ c. whole_walk (grid_ring_unsafe link c k)) (cell_given index)) lines_of_cells
-answers_are_words tables command.GetDirectedEdgeDestinations = λ link index. printed_lines IsWord cell_line (destination_of link index) line_of_cell
-answers_are_words tables (command.ForEach function) = lines_for function
-answers_are_words tables other = tt
-
 -- ---- fields
 
 both : (x y : Bool) → (x && y) ≡ true → (x ≡ true) × (y ≡ true)
@@ -185,7 +178,7 @@ no_quote true = refl
 no_quote false = refl
 
 -- nor is the byte that separates a quote
-no_quote_separates : (separator : ℕ) → is_separator separator ≡ true → (34 == separator) ≡ false
+pub no_quote_separates : (separator : ℕ) → is_separator separator ≡ true → (34 == separator) ≡ false
 no_quote_separates separator serves = grind (arith, nat_tests)
 
 -- texts of bytes that pass a test, none of which is a quote, are not cut by a byte that does not
@@ -309,35 +302,264 @@ word_pairs_are_kept kept separator quotes row a b serves closed first second =
     let (other_free, other_uncut, other_feed, other_inside) = words_are_fields separator quotes b serves second in
     kept separator quotes row a b (no_quote_separates separator serves) closed uncut inside other_uncut other_inside
 
+-- ---- answers to cells
+
+-- one of some names, or none
+any_name : (P : List ℕ → Type 0) (names : List (List ℕ)) (n : ℕ) → All P names → P [] → P (get_or names n [])
+any_name P [] n all empty = empty
+any_name P (name ∷ names) zero all empty = All-head P name names all
+any_name P (name ∷ names) (suc n) all empty = any_name P names n (All-tail P name names all) empty
+
+as_field : (separator : ℕ) (quotes : Bool) (name : List ℕ) → IsOneField separator quotes name → IsField separator quotes name
+as_field separator quotes name own = record { in_row = own.uncut; in_line = own.on_line; returnless = own.returnless; closed = own.closed; sound = own.sound }
+
+names_are_fields : (separator : ℕ) (quotes : Bool) (names : List (List ℕ)) → All (IsOneField separator quotes) names → All (IsField separator quotes) names
+names_are_fields separator quotes [] all = All-nil (IsField separator quotes)
+names_are_fields separator quotes (name ∷ names) all =
+    let own = All-head (IsOneField separator quotes) name names all in
+    All-cons (IsField separator quotes) name names (as_field separator quotes name own) (names_are_fields separator quotes names (All-tail (IsOneField separator quotes) name names all))
+
+-- the name of an area, or what stands for none
+name_lines : (separator : ℕ) (quotes : Bool) (none : List ℕ) (names : List (List ℕ)) (numbers : List ℕ) → IsField separator quotes none → All (IsField separator quotes) names → AreLinesOf (IsField separator quotes) (name_or none names numbers ++ 10 ∷ [])
+name_lines separator quotes none names [] plain fields = one_line (IsField separator quotes) none plain
+name_lines separator quotes none names (n ∷ ns) plain fields = one_line (IsField separator quotes) (get_or names n []) (any_name (IsField separator quotes) names n fields (record { in_row = refl; in_line = refl; returnless = λ counts. refl; closed = refl; sound = λ counts. refl }))
+
+-- where a table is not refused, this is what is read of it
+unrefused : (refusal : Option H3Error) (es entries : List Entry) → unless_overlapping refusal es ≡ Ok entries → ◌≡◌ {A = Result (List Entry) AnswerError} (Ok es) (Ok entries)
+unrefused None es entries is = is
+unrefused (Some e) es entries is = absurd (cc)
+
+entries_read : (quotes : Bool) (read : Result (List Entry) AnswerError) (entries : List Entry) → judged_areas quotes read ≡ Ok entries → read ≡ Ok entries
+entries_read quotes (Err e) entries is = absurd (cc)
+entries_read quotes (Ok es) entries is = unrefused (areas_refusal (area_cells quotes es)) es entries is
+
+-- a byte that is not the separator, a quote, a line feed or a carriage return
+plain_byte : (separator : ℕ) → IsPlainBy (λ b. not ((b == separator) || (b == 34) || (b == 10) || (b == 13))) separator
+plain_byte separator b h =
+    let (rest, return) = neither ((b == separator) || (b == 34) || (b == 10)) (b == 13) h in
+    let (more, feed) = neither ((b == separator) || (b == 34)) (b == 10) (rw rest refl) in
+    let (other, quote) = neither (b == separator) (b == 34) (rw more refl) in
+    (other, quote, feed, return)
+
+-- where nothing cuts bytes, they are one piece
+whole_piece : (mark : ℕ) (quotes inside : Bool) (bytes : List ℕ) → is_uncut mark quotes inside bytes ≡ true → cut mark quotes inside bytes ≡ (bytes, inside_after quotes inside bytes) ∷ []
+whole_piece mark quotes inside [] uncut = refl
+whole_piece mark quotes inside (b ∷ bs) uncut =
+    let (other, more) = both (not ((b == mark) && not inside)) (is_uncut mark quotes (turned quotes inside b) bs) uncut in
+    let flipped : (x : Bool) → not x ≡ true → x ≡ false = λ x. elim x as (λ x. not x ≡ true → x ≡ false) [ true ↦ λ h. absurd (cc) | false ↦ λ h. refl ] in
+    rw (flipped ((b == mark) && not inside) other) (ap (with_first b) (whole_piece mark quotes (turned quotes inside b) bs more))
+
+-- bytes without a quote
+quoteless : List ℕ → Bool
+quoteless bytes = list_all (λ b. not (b == 34)) bytes
+
+flip : (x : Bool) → not x ≡ true → x ≡ false
+flip true h = absurd (cc)
+flip false h = refl
+
+opens_none : (separator : ℕ) (start after inside : Bool) (bytes : List ℕ) → quoteless bytes ≡ true → opens_well separator start after inside bytes ≡ true
+unfolding quoteless
+opens_none separator start after inside [] none = refl
+opens_none separator start after inside (b ∷ bs) none =
+    let (first, more) = both (not (b == 34)) (list_all (λ b. not (b == 34)) bs) none in
+    rw (flip (b == 34) first) (opens_none separator (not inside && (b == separator || (start && is_blank b))) false inside bs more)
+
+pads_none : (bytes : List ℕ) → quoteless bytes ≡ true → (get_or (without_leading_blanks bytes) 0 0 == 34) ≡ false
+unfolding quoteless
+pads_none [] none = refl
+pads_none (b ∷ bs) none =
+    let (first, more) = both (not (b == 34)) (list_all (λ b. not (b == 34)) bs) none in
+    let either : (t : Bool) → (get_or (if t then without_leading_blanks bs else b ∷ bs) 0 0 == 34) ≡ false =
+    λ t. elim t as (λ t. (get_or (if t then without_leading_blanks bs else b ∷ bs) 0 0 == 34) ≡ false) [ true ↦ pads_none bs more | false ↦ flip (b == 34) first ] in
+    either (is_blank b)
+
+and_false : (x : Bool) → (x && false) ≡ false
+and_false true = refl
+and_false false = refl
+
+-- one field without a quote has sound ones
+sound_alone : (separator : ℕ) (bytes : List ℕ) → quoteless bytes ≡ true → is_uncut separator true false bytes ≡ true → quotes_are_sound separator bytes ≡ true
+sound_alone separator bytes none uncut =
+    rw (opens_none separator true false false bytes none, whole_piece separator true false bytes uncut, pads_none bytes none, and_false (is_blank (get_or bytes 0 0))) refl
+
+plain_quoteless : (separator : ℕ) (text : List ℕ) → is_plain_field separator text ≡ true → quoteless text ≡ true
+unfolding quoteless
+plain_quoteless separator [] plain = refl
+plain_quoteless separator (b ∷ bs) plain =
+    let (first, more) = both (not ((b == separator) || (b == 34) || (b == 10) || (b == 13))) (list_all (λ b. not ((b == separator) || (b == 34) || (b == 10) || (b == 13))) bs) plain in
+    let (other, quote, feed, return) = plain_byte separator b first in
+    rw quote (plain_quoteless separator bs more)
+
+-- what has none of these is one field
+pub plain_lines : (separator : ℕ) (quotes : Bool) (text : List ℕ) → is_plain_field separator text ≡ true → IsField separator quotes text
+plain_lines separator quotes text plain =
+    let is_plain_byte : ℕ → Bool = λ b. not ((b == separator) || (b == 34) || (b == 10) || (b == 13)) in
+    let (own, uncut, feed, closed) = plain_field is_plain_byte separator quotes text (plain_byte separator) plain in
+    record {
+      in_row = uncut;
+      in_line = feed;
+      returnless = λ counts. (fields is_plain_byte 13 quotes text (λ b q. (plain_byte separator b q).1) (λ b q. (plain_byte separator b q).3) plain).0;
+      closed = closed;
+      sound = λ counts. sound_alone separator text (plain_quoteless separator text plain) (fields is_plain_byte separator true text (λ b q. (plain_byte separator b q).1) (λ b q. (plain_byte separator b q).0) plain).0;
+    }
+
+area_lines : NamesAreFields → (areas : AreaOptions) (bytes : List ℕ) (entries : List Entry) (index : Option ℕ) → areas_of_file (table_of areas.table) bytes ≡ Ok entries
+    → AreAnswerLines (IsZoneLine (Some areas)) (area_answer areas.table.rows.quotes (string_bytes areas.none) entries index)
+area_lines names areas bytes entries index is =
+    let quotes = areas.table.rows.quotes in
+    let separator = areas.table.rows.separator in
+    let none = string_bytes areas.none in
+    let read = entries_read quotes (entries_of_table (table_of areas.table) bytes) entries is in
+    let each = names (table_of areas.table) bytes entries (no_quote_separates separator areas.table.rows.separates) read in
+    let own = names_are_fields separator quotes (area_names quotes entries) each in
+    printed_lines (IsField separator quotes) (name_line none (area_names quotes entries) (area_cells quotes entries)) (cell_given index)
+    (λ cell. name_lines separator quotes none (area_names quotes entries) (areas_of (area_cells quotes entries) cell) (plain_lines separator quotes none areas.plain) own)
+
+-- where cells lie: zones, or areas with names
+zone_lines_of : NamesAreFields → (tables : Tables) (areas : Option AreaOptions) → AnswersBy (AreAnswerLines (IsZoneLine areas)) (zones_request tables areas)
+zone_lines_of names tables None = λ zones index. printed_lines IsWord zone_line (cell_to_zone zones index) zone_lines
+zone_lines_of names tables (Some areas) = λ bytes entries index is. area_lines names areas bytes entries index is
+
+-- counts are no answer line by line
+no_lines_counted : (Is : Answer → Type 0) (tables : Tables) (areas : Option AreaOptions) → AnswersBy Is (counts_request tables areas)
+no_lines_counted Is tables None = tt
+no_lines_counted Is tables (Some areas) = tt
+
+pub answers_are_words : NamesAreFields → AnswersAreWords
+answers_are_words names tables command.AreCoveredCells = λ cells index. printed_lines IsWord truth_line (is_covered_cell (compacted cells) index) truth_lines
+answers_are_words names tables command.CountCellsInZones = no_lines_counted (AreAnswerLines IsWord) tables tables.areas
+answers_are_words names tables command.CellsToZones = zone_lines_of names tables tables.areas
+answers_are_words names tables (command.GridDiskUnsafe cell k) = one_query (AreAnswerLines IsWord) (λ c link. answer_or_error (walked cell_line) (grid_disk_unsafe link c k)) (cell_given cell)
+answers_are_words names tables (command.GridDiskDistancesUnsafe cell k) = one_query (AreAnswerLines IsWord) (λ c link. answer_or_error (walked ring_line) (grid_disk_distances_unsafe link c k)) (cell_given cell)
+answers_are_words names tables (command.GridRingUnsafe cell k) = one_query (AreAnswerLines IsWord) (λ c link. answer_or_error (walked cell_line) (grid_ring_unsafe link c k)) (cell_given cell)
+answers_are_words names tables (command.AreNeighborCells cell to) = one_query (AreAnswerLines IsWord) (λ cells link. printed truth_line (are_neighbor_cells link cells)) (pair_of (cell_given cell) (cell_given to))
+answers_are_words names tables (command.CellsToDirectedEdge cell to) = one_query (AreAnswerLines IsWord) (λ cells link. printed edge_line (cells_to_directed_edge link cells)) (pair_of (cell_given cell) (cell_given to))
+answers_are_words names tables (command.GetDirectedEdgeDestination edge) = one_query (AreAnswerLines IsWord) (λ e link. printed cell_line (get_directed_edge_destination link e)) (edge_given edge)
+answers_are_words names tables (command.CellsToChildren res) = λ index. printed_lines IsWord cell_lines (for_value (λ h. cell_to_children h res) (index_given index)) lines_of_cells
+answers_are_words names tables (command.GridDisksUnsafe k) = λ link index. printed_lines IsWord cell_lines (for_value (λ c. whole_walk (grid_disk_unsafe link c k)) (cell_given index)) lines_of_cells
+answers_are_words names tables (command.GridDisksDistancesUnsafe k) = λ link index. printed_lines (IsPairOfWords (between_parts tables.list)) (flat_map (ring_line_by (between_parts tables.list))) (for_value (λ c. whole_walk (grid_disk_distances_unsafe link c k)) (cell_given index)) (lines_of_rings (between_parts tables.list))
+answers_are_words names tables (command.GridRingsUnsafe k) = λ link index. printed_lines IsWord cell_lines (for_value (λ c. whole_walk (grid_ring_unsafe link c k)) (cell_given index)) lines_of_cells
+answers_are_words names tables command.GetDirectedEdgeDestinations = λ link index. printed_lines IsWord cell_line (destination_of link index) line_of_cell
+answers_are_words names tables (command.ForEach function) = lines_for function
+answers_are_words names tables other = tt
+
+-- ---- the name of the new column
+
+-- one of the names that are read, or another one
+title_after_is : (P : List ℕ → Type 0) (title : Option (List ℕ)) (other : List ℕ) (entries : List Entry) → P (unwrap_or title other) → P other → All (λ e. P e.1) entries → P (unwrap_or (title_after title entries) other)
+title_after_is P title other [] own last all = own
+title_after_is P title other (e ∷ es) own last all =
+    let first : P e.1 = All-head (λ e. P e.1) e es all in
+    let either : (cell : Option Address) → P (unwrap_or (title_with title cell e.1) other) =
+    λ cell. elim cell as (λ cell. P (unwrap_or (title_with title cell e.1) other)) [ None ↦ first | Some c ↦ own ] in
+    title_after_is P (title_with title e.0 e.1) other es (either e.0) last (All-tail (λ e. P e.1) e es all)
+
+entries_as_fields : (separator : ℕ) (quotes : Bool) (entries : List Entry) → All (λ e. IsOneField separator quotes e.1) entries → All (λ e. IsField separator quotes e.1) entries
+entries_as_fields separator quotes [] all = All-nil (λ e. IsField separator quotes e.1)
+entries_as_fields separator quotes (e ∷ es) all =
+    All-cons (λ e. IsField separator quotes e.1) e es (as_field separator quotes e.1 (All-head (λ e. IsOneField separator quotes e.1) e es all))
+    (entries_as_fields separator quotes es (All-tail (λ e. IsOneField separator quotes e.1) e es all))
+
+pub titles_are_fields : EntriesAreFields → TitlesAreFields
+titles_are_fields law areas bytes entries is =
+    let quotes = areas.table.rows.quotes in
+    let separator = areas.table.rows.separator in
+    let read = entries_read quotes (entries_of_table (table_of areas.table) bytes) entries is in
+    let each = entries_as_fields separator quotes entries (law (table_of areas.table) bytes entries (no_quote_separates separator areas.table.rows.separates) read) in
+    let zone = plain_lines separator quotes (codes "zone") (words_are_fields separator quotes (codes "zone") areas.table.rows.separates refl).0 in
+    title_after_is (IsField separator quotes) None (codes "zone") entries zone zone each
+
+-- ---- names beside rows
+
+-- a byte that may come, and what follows it
+opens : (x rest : Bool) → (if x then rest else false) ≡ true → (x ≡ true) × (rest ≡ true)
+opens true rest h = (refl, h)
+opens false rest h = absurd (cc)
+
+no_mark : (separator : ℕ) → (34 == separator) ≡ false → (separator == 34) ≡ false
+no_mark separator apart = grind (arith, nat_tests)
+
+-- quotes open well in a row, and then in a field
+opens_beside : (separator : ℕ) (start after inside : Bool) (row field : List ℕ) → (34 == separator) ≡ false → inside_after true inside row ≡ false
+    → opens_well separator start after inside row ≡ true → opens_well separator true false false field ≡ true → opens_well separator start after inside (row ++ separator ∷ field) ≡ true
+opens_beside separator start after inside [] field apart closed whole more = rw (no_mark separator apart, closed, eq-eqb separator separator refl) more
+opens_beside separator start after inside (b ∷ bs) field apart closed whole more =
+    let go : (q : Bool) → (b == 34) ≡ q → inside_after true (if q then not inside else inside) bs ≡ false
+    → (if q then (if inside || start || after then opens_well separator false true (not inside) bs else false) else opens_well separator (not inside && (b == separator || (start && is_blank b))) false inside bs) ≡ true
+    → (if q then (if inside || start || after then opens_well separator false true (not inside) (bs ++ separator ∷ field) else false) else opens_well separator (not inside && (b == separator || (start && is_blank b))) false inside (bs ++ separator ∷ field)) ≡ true =
+    λ q. elim q as (λ q. (b == 34) ≡ q → inside_after true (if q then not inside else inside) bs ≡ false
+    → (if q then (if inside || start || after then opens_well separator false true (not inside) bs else false) else opens_well separator (not inside && (b == separator || (start && is_blank b))) false inside bs) ≡ true
+    → (if q then (if inside || start || after then opens_well separator false true (not inside) (bs ++ separator ∷ field) else false) else opens_well separator (not inside && (b == separator || (start && is_blank b))) false inside (bs ++ separator ∷ field)) ≡ true) [
+      | true ↦ λ is shut sound. (
+          let (may, rest) = opens (inside || start || after) (opens_well separator false true (not inside) bs) sound in
+          rw may (opens_beside separator false true (not inside) bs field apart shut rest more))
+      | false ↦ λ is shut sound. opens_beside separator (not inside && (b == separator || (start && is_blank b))) false inside bs field apart shut sound more
+    ] in
+    go (b == 34) refl closed whole
+
+sound_beside : (separator : ℕ) (row field : List ℕ) → (34 == separator) ≡ false → inside_after true false row ≡ false → is_uncut separator true false field ≡ true
+    → cut separator true false (row ++ separator ∷ field) ≡ cut separator true false row ++ (field, false) ∷ []
+    → quotes_are_sound separator row ≡ true → quotes_are_sound separator field ≡ true → quotes_are_sound separator (row ++ separator ∷ field) ≡ true
+sound_beside separator row field apart closed uncut kept whole more =
+    let alike : Piece → Bool = λ p. is_read_alike separator p.0 in
+    let (row_opens, row_alike) = both (opens_well separator true false false row) (list_all alike (cut separator true false row)) whole in
+    let (field_opens, pieces_alike) = both (opens_well separator true false false field) (list_all alike (cut separator true false field)) more in
+    let one = subst (λ l. list_all alike l ≡ true) (whole_piece separator true false field uncut) pieces_alike in
+    let field_alike = (both (is_read_alike separator field) true one).0 in
+    rw (opens_beside separator true false false row field apart closed row_opens field_opens, kept, list_all-append alike (cut separator true false row) ((field, false) ∷ []), row_alike, field_alike) refl
+
+no_return_separates : (separator : ℕ) → is_separator separator ≡ true → (separator == 13) ≡ false
+no_return_separates separator serves = grind (arith, nat_tests)
+
+-- no mark cuts a row, nor a field behind it
+uncut_beside : (mark separator : ℕ) (inside : Bool) (row field : List ℕ) → (separator == mark) ≡ false → (separator == 34) ≡ false → is_uncut mark true inside row ≡ true → inside_after true inside row ≡ false
+    → is_uncut mark true false field ≡ true → is_uncut mark true inside (row ++ separator ∷ field) ≡ true
+uncut_beside mark separator inside [] field other quote uncut closed more = rw (closed, other, quote) more
+uncut_beside mark separator inside (b ∷ bs) field other quote uncut closed more =
+    let (first, rest) = both (not ((b == mark) && not inside)) (is_uncut mark true (turned true inside b) bs) uncut in
+    rw first (uncut_beside mark separator (turned true inside b) bs field other quote rest closed more)
+
+pub names_are_kept : FieldsAreKept → NamesAreKept
+names_are_kept law rows areas row name separators counts closed field =
+    let separator = rows.separator in
+    let quotes = rows.quotes in
+    let apart = no_quote_separates separator rows.separates in
+    let own : IsField separator quotes name = subst (λ s. IsField s quotes name) separators (subst (λ q. IsField areas.table.rows.separator q name) counts field) in
+    let kept = law separator quotes row name apart closed own.in_row own.closed in (
+      kept,
+      λ yes sound.
+          let cut_alike = subst (λ q. cut separator q false (row ++ separator ∷ name) ≡ cut separator q false row ++ (name, false) ∷ []) yes kept in
+          sound_beside separator row name apart (subst (λ q. inside_after q false row ≡ false) yes closed) (subst (λ q. is_uncut separator q false name ≡ true) yes own.in_row) cut_alike sound (own.sound yes),
+      λ yes uncut. uncut_beside 13 separator false row name (no_return_separates separator rows.separates) (no_mark separator apart) uncut (subst (λ q. inside_after q false row ≡ false) yes closed)
+          (subst (λ q. is_uncut 13 q false name ≡ true) yes (own.returnless yes)),
+    )
+
 -- ---- a row for each line
 
 -- there is a first piece
-some_piece : (bytes : List ℕ) → (p : Piece) × (more : List Piece) × (cut 10 false false bytes ≡ p ∷ more)
-some_piece [] = (([], false), [], refl)
-some_piece (b ∷ bs) =
-    let (p, more, is) = some_piece bs in
-    let either : (t : Bool) → (q : Piece) × (others : List Piece) × ((if t then ([], false) ∷ cut 10 false false bs else with_first b (cut 10 false false bs)) ≡ q ∷ others) =
-    λ t. elim t as (λ t. (q : Piece) × (others : List Piece) × ((if t then ([], false) ∷ cut 10 false false bs else with_first b (cut 10 false false bs)) ≡ q ∷ others)) [
-      | true ↦ (([], false), cut 10 false false bs, refl)
-      | false ↦ ((b ∷ p.0, p.1), more, ap (with_first b) is)
-    ] in
-    either ((b == 10) && true)
+some_piece : (quotes inside : Bool) (bytes : List ℕ) → (p : Piece) × (more : List Piece) × (cut 10 quotes inside bytes ≡ p ∷ more)
+some_piece quotes inside [] = (([], inside), [], refl)
+some_piece quotes inside (b ∷ bs) =
+    let (p, more, is) = some_piece quotes (turned quotes inside b) bs in
+    elim ((b == 10) && not inside) as (λ t. (q : Piece) × (others : List Piece) × ((if t then ([], false) ∷ cut 10 quotes false bs else with_first b (cut 10 quotes (turned quotes inside b) bs)) ≡ q ∷ others))
+    [ true ↦ (([], false), cut 10 quotes false bs, refl) | false ↦ ((b ∷ p.0, p.1), more, ap (with_first b) is) ]
 
 -- a line is cut off at its line feed
-cut_line : (line rest : List ℕ) → is_uncut 10 false false line ≡ true → cut 10 false false (line ++ (10 ∷ rest)) ≡ (line, false) ∷ cut 10 false false rest
-cut_line [] rest uncut = refl
-cut_line (b ∷ bs) rest uncut =
-    let (other, more) = both (not ((b == 10) && true)) (is_uncut 10 false false bs) uncut in
+cut_line : (quotes inside : Bool) (line rest : List ℕ) → is_uncut 10 quotes inside line ≡ true → inside_after quotes inside line ≡ false → cut 10 quotes inside (line ++ (10 ∷ rest)) ≡ (line, false) ∷ cut 10 quotes false rest
+cut_line quotes inside [] rest uncut closed = rw closed refl
+cut_line quotes inside (b ∷ bs) rest uncut closed =
+    let (other, more) = both (not ((b == 10) && not inside)) (is_uncut 10 quotes (turned quotes inside b) bs) uncut in
     let flipped : (x : Bool) → not x ≡ true → x ≡ false = λ x. elim x as (λ x. not x ≡ true → x ≡ false) [ true ↦ λ h. absurd (cc) | false ↦ λ h. refl ] in
-    rw (flipped ((b == 10) && true) other) (ap (with_first b) (cut_line bs rest more))
+    rw (flipped ((b == 10) && not inside) other) (ap (with_first b) (cut_line quotes (turned quotes inside b) bs rest more closed))
 
 pub rows_stand_once : RowsStandOnce
-rows_stand_once separator after row [] all = refl
-rows_stand_once separator after row (line ∷ lines) all =
+rows_stand_once separator quotes after row [] all = refl
+rows_stand_once separator quotes after row (line ∷ lines) all =
     let rest : List ℕ = flat_map (λ line. line ++ 10 ∷ []) lines in
-    let (p, more, is) = some_piece rest in
-    let first : cut 10 false false ((line ++ 10 ∷ []) ++ rest) ≡ (line, false) ∷ (p ∷ more) =
-    ap (cut 10 false false) (append_assoc line (10 ∷ []) rest) ∙ cut_line line rest (All-head (λ line. is_uncut 10 false false line ≡ true) line lines all) ∙ ap (λ ps. (line, false) ∷ ps) is in
+    let (p, more, is) = some_piece quotes false rest in
+    let own = All-head (λ line. Uncut 10 quotes false line false) line lines all in
+    let first : cut 10 quotes false ((line ++ 10 ∷ []) ++ rest) ≡ (line, false) ∷ (p ∷ more) =
+    ap (cut 10 quotes false) (append_assoc line (10 ∷ []) rest) ∙ cut_line quotes false line rest own.uncut own.inside_is ∙ ap (λ ps. (line, false) ∷ ps) is in
     let later : each_with separator after row (p ∷ more) ≡ flat_map (λ line. row_with separator row (line ++ after)) lines =
-    ap (each_with separator after row) (sym is) ∙ rows_stand_once separator after row lines (All-tail (λ line. is_uncut 10 false false line ≡ true) line lines all) in
+    ap (each_with separator after row) (sym is) ∙ rows_stand_once separator quotes after row lines (All-tail (λ line. Uncut 10 quotes false line false) line lines all) in
     ap (each_with separator after row) first ∙ ap (λ l. row_with separator row (line ++ after) ++ l) later

@@ -1,5 +1,5 @@
 -- The request of a command, and the answer to it.
-use Rattle.std.specs.Prelude.{ℕ, Bool, true, false, not, List, [], is_some, Option, None, Some, Result, Ok, Err, codes}
+use Rattle.std.specs.Prelude.{ℕ, Bool, true, false, not, List, [], is_some, Option, None, Some, Result, Ok, Err, codes, string_bytes}
 use Rattle.std.specs.Result.{is_ok}
 use Rattle.h3_index.specs.Cell.{Address}
 use Rattle.h3_index.specs.declared.error.H3Error.{H3Error}
@@ -23,6 +23,8 @@ use Rattle.h3_functions.specs.Resolutions.{get_num_cells, get_pentagons, get_res
 use Rattle.h3_functions.specs.Sets.{compact_cells, uncompact_cells, uncompact_cells_size}
 use Rattle.h3_functions.specs.Walks.{grid_disk_distances_unsafe, grid_disk_unsafe, grid_ring_unsafe}
 use Rattle.h3_set.specs.Compacted.{compacted}
+use Rattle.h3_command.specs.AreaCounts.{area_counts_answer}
+use Rattle.h3_command.specs.Areas.{area_answer, areas_of_file}
 use Rattle.h3_command.specs.Files.{counts_answer, covered_answer, file_cells, left_answer, shared_answer, unless_refused, zone_answer}
 use Rattle.h3_command.specs.Required.{cell_given, edge_given, index_given}
 use Rattle.h3_command.specs.LongAnswers.{between_parts, children_for, disk_distances_for, disk_for, ring_for}
@@ -31,17 +33,21 @@ use Rattle.h3_requests.specs.declared.command.IndexFunction.{IndexFunction}
 use Rattle.h3_requests.specs.declared.command.IndexFunction.TheVariants as each
 use Rattle.h3_requests.specs.declared.command.Command.{Command}
 use Rattle.h3_requests.specs.declared.command.Command.TheVariants as command
+use Rattle.h3_requests.specs.declared.rows.AreaOptions.{AreaOptions}
 use Rattle.h3_requests.specs.declared.rows.Tables.{Tables}
 use Rattle.h3_lines.specs.Pieces.{rows_of}
 use Rattle.h3_rows.specs.Cells.{cells_of}
+use Rattle.h3_rows.specs.Named.{Entry, Table, table_of}
 use Rattle.h3_rows.specs.RowsAnswer.{Form}
-use Rattle.h3_command.specs.Rows.{file_form, list_form, listed_answer, pair_form, rows_form}
+use Rattle.h3_command.specs.Rows.{area_form, file_form, list_form, listed_answer, pair_form, rows_form}
 
 -- Request: what a command reads and writes: an answer that its words alone fix, one about the cells listed on
 -- standard input, also with the number of a faulty line, one for each line of it, or one about the links of a base
 -- cell table; or one about the cells of a file, and then the cells listed on standard input, or for each line of it;
--- or one about the links of a table, and then for each line of the list. The file of cells and the list may have rows
--- in a form, each in its own, in place of bare lines: the file's form comes first.
+-- or one about the links of a table, and then for each line of the list; or one about the areas of a table of zones with
+-- names, and then for each line of the list, or about the cells listed there. The file of cells and the list may have rows in
+-- a form, each in its own, in place of bare lines: the file's form comes first. After a table of zones with names the form
+-- of a list that is answered line by line depends on that table: its header has the name of the new column.
 pub data Request : Type 0 where
   plain : Answer → Request
   of_list : Option Form → (List Address → Answer) → Request
@@ -51,6 +57,8 @@ pub data Request : Type 0 where
   of_file_and_list : CellFile → Option Form → Option Form → (List Address → List Address → Answer) → Request
   of_file_and_lines : CellFile → Option Form → Option Form → (List Address → Option ℕ → Answer) → Request
   of_table_and_lines : Option Form → (Links → Option ℕ → Answer) → Request
+  of_areas_and_lines : Table → (List Entry → Option Form) → (List Entry → Option ℕ → Answer) → Request
+  of_areas_and_list : Table → Option Form → (List Entry → List Address → Answer) → Request
 
 -- with_table about r: the request about a value and a table; where there is an error in place of the value, the answer
 -- is that error, and the table is not read
@@ -70,11 +78,25 @@ shown (Edges index) = printed edge_lines (origin_to_directed_edges index)
 abbrev pub answer_for : IndexFunction → Option ℕ → Answer
 answer_for function word = answer_or_error (λ h. shown (outcome_of function h)) (index_given word)
 
+-- zones_request tables areas: the request of `cellsToZones`: the zone of each cell, or the name of its area if the zones have
+-- names
+abbrev pub zones_request : Tables → Option AreaOptions → Request
+zones_request tables None = of_file_and_lines Zones (file_form tables) (rows_form tables.list (codes "zone")) zone_answer
+zones_request tables (Some areas) =
+    of_areas_and_lines (table_of areas.table) (area_form tables.list areas.table.rows.quotes) (area_answer areas.table.rows.quotes (string_bytes areas.none))
+
+-- counts_request tables areas: what is read and written for the counts of cells: how many lie in each zone, or, if the zones
+-- have names, in each area
+abbrev pub counts_request : Tables → Option AreaOptions → Request
+counts_request tables None = of_file_and_list Zones (file_form tables) (list_form tables.list) counts_answer
+counts_request tables (Some areas) =
+    of_areas_and_list (table_of areas.table) (list_form tables.list) (area_counts_answer areas tables.list)
+
 -- request_of tables command: what a command reads and writes, of which the list and the file of cells have rows, or
 -- bare lines: an answer that its words alone fix, one about the cells listed on standard input, or those of rows, the
 -- same with the number of a faulty line, one line by line about the indexes listed there, or row by row, one about
 -- the links of a table, one about the cells of a file and then about the list, or about each of its lines or rows, or
--- one about the links of a table and then about each line or row of the list
+-- one about the links of a table, or the areas of one, and then about each line or row of the list
 abbrev pub request_of : Tables → Command → Request
 request_of tables (command.IsValidCell cell) = plain (answer_for each.IsValidCell cell)
 request_of tables (command.GetResolution cell) = plain (answer_for each.GetResolution cell)
@@ -98,8 +120,8 @@ request_of tables command.UniteCells = of_numbered_list (list_form tables.list) 
 request_of tables command.IntersectCells = of_file_and_list Region (file_form tables) (list_form tables.list) shared_answer
 request_of tables command.SubtractCells = of_file_and_list Region (file_form tables) (list_form tables.list) left_answer
 request_of tables command.AreCoveredCells = of_file_and_lines Region (file_form tables) (rows_form tables.list (codes "isCovered")) covered_answer
-request_of tables command.CellsToZones = of_file_and_lines Zones (file_form tables) (rows_form tables.list (codes "zone")) zone_answer
-request_of tables command.CountCellsInZones = of_file_and_list Zones (file_form tables) (list_form tables.list) counts_answer
+request_of tables command.CellsToZones = zones_request tables tables.areas
+request_of tables command.CountCellsInZones = counts_request tables tables.areas
 request_of tables (command.GridDiskUnsafe cell k) = with_table (λ c link. answer_or_error (walked cell_line) (grid_disk_unsafe link c k)) (cell_given cell)
 request_of tables (command.GridDiskDistancesUnsafe cell k) = with_table (λ c link. answer_or_error (walked ring_line) (grid_disk_distances_unsafe link c k)) (cell_given cell)
 request_of tables (command.GridRingUnsafe cell k) = with_table (λ c link. answer_or_error (walked cell_line) (grid_ring_unsafe link c k)) (cell_given cell)
@@ -118,7 +140,7 @@ request_of tables (command.ForEach function) = of_lines (rows_form tables.list (
 
 -- request command: the same of a command whose list and file have bare lines
 abbrev pub request : Command → Request
-request c = request_of (record { list = None; file = None }) c
+request c = request_of (record { list = None; file = None; areas = None }) c
 
 -- reads_list r: the request reads the list
 abbrev pub reads_list : Request → Bool
@@ -130,6 +152,8 @@ reads_list (of_table about) = false
 reads_list (of_file_and_list f rows form about) = true
 reads_list (of_file_and_lines f rows form about) = true
 reads_list (of_table_and_lines form about) = true
+reads_list (of_areas_and_lines table form about) = true
+reads_list (of_areas_and_list table form about) = true
 
 -- reads_table r: it reads the table, or a file of cells in its place
 abbrev pub reads_table : Request → Bool
@@ -141,6 +165,8 @@ reads_table (of_table about) = true
 reads_table (of_file_and_list f rows form about) = true
 reads_table (of_file_and_lines f rows form about) = true
 reads_table (of_table_and_lines form about) = true
+reads_table (of_areas_and_lines table form about) = true
+reads_table (of_areas_and_list table form about) = true
 
 -- the list is read where the bytes of the table, or of the file of cells, are these: not where the file is refused that
 -- comes before it
@@ -148,6 +174,8 @@ abbrev pub reads_list_after : Request → List ℕ → Bool
 reads_list_after (of_file_and_list f rows form about) file = is_ok (file_cells f rows file)
 reads_list_after (of_file_and_lines f rows form about) file = is_ok (file_cells f rows file)
 reads_list_after (of_table_and_lines form about) file = not (is_some (table_fault (records_of file)))
+reads_list_after (of_areas_and_lines table form about) file = is_ok (areas_of_file table file)
+reads_list_after (of_areas_and_list table form about) file = is_ok (areas_of_file table file)
 reads_list_after r file = reads_list r
 
 -- takes_memory r: it takes memory
@@ -160,10 +188,12 @@ takes_memory (of_table about) = true
 takes_memory (of_file_and_list f rows form about) = true
 takes_memory (of_file_and_lines f rows form about) = true
 takes_memory (of_table_and_lines form about) = true
+takes_memory (of_areas_and_lines table form about) = true
+takes_memory (of_areas_and_list table form about) = true
 
 -- ---- the answer
 
--- answer_or_error_at n about r: the answer about a list's cells, or its error, told with the number n of a line
+-- answer_or_error_at n about r: the answer about a list's cells, or its error, reported with the number n of a line
 abbrev pub answer_or_error_at : ℕ → (List Address → Answer) → Result (List Address) H3Error → Answer
 answer_or_error_at line about (Ok cells) = about cells
 answer_or_error_at line about (Err e) = record { output = []; ending = Err (At line e) }
@@ -178,7 +208,7 @@ abbrev pub about_table : (Links → Answer) → List ℕ → Answer
 about_table about file = unless_faulty (table_fault (records_of file)) (about (links_of (records_of file)))
 
 -- about_rows form about list: the answer about the cells of the rows in a list of bytes, or the error of the first row that
--- ends the list, told with its number, or of the column that a header lacks
+-- ends the list, reported with its number, or of the column that a header lacks
 abbrev pub about_rows : Form → (List Address → Answer) → List ℕ → Answer
 about_rows form about list = unless_refused about (cells_of form (rows_of form.quotes list))
 
@@ -188,7 +218,7 @@ abbrev pub about_list : Option Form → (List Address → Answer) → List ℕ �
 about_list None about list = answer_or_error about (listed_cells list)
 about_list (Some form) about list = about_rows form about list
 
--- about_numbered_list form about list: the same, where the error of a faulty line is told with its number
+-- about_numbered_list form about list: the same, where the error of a faulty line is reported with its number
 abbrev pub about_numbered_list : Option Form → (List Address → Answer) → List ℕ → Answer
 about_numbered_list None about list = answer_or_error_at (faulty_line list) about (listed_cells list)
 about_numbered_list (Some form) about list = about_rows form about list
@@ -206,6 +236,10 @@ answer_to (of_file_and_list f rows form about) list file =
 answer_to (of_file_and_lines f rows form about) list file =
     unless_refused (λ cells. listed_answer form (about cells) list) (file_cells f rows file)
 answer_to (of_table_and_lines form about) list file = about_table (λ link. listed_answer form (about link) list) file
+answer_to (of_areas_and_lines table form about) list file =
+    unless_refused (λ entries. listed_answer (form entries) (about entries) list) (areas_of_file table file)
+answer_to (of_areas_and_list table form about) list file =
+    unless_refused (λ entries. about_numbered_list form (about entries) list) (areas_of_file table file)
 
 -- the answer to a command. Examples alone cite it.
 abbrev pub answer : Command → List ℕ → List ℕ → Answer

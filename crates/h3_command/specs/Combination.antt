@@ -26,7 +26,7 @@ abbrev pub AreArranged : CellFile → List Address → List Address → Type 0
 AreArranged Region listed cells = cells ≡ listed
 AreArranged Zones listed cells = IsPermutation listed cells × IsZones cells
 
--- the refusal of a list, told as that of a file
+-- the refusal of a list, with the kind of its file
 abbrev pub in_file : CellFile → RunError → RunError
 in_file file (Error e) = Error (error_of_file file e)
 in_file file (Fault f) = Fault f

@@ -50,7 +50,7 @@ no_cell : (answer (ForEach each.GetResolution) (codes "81087ffffffffff") []).end
 unfolding cell_in address_in number_of parsed_index
 no_cell = refl
 
--- a cell that is listed twice is united; behind a blank line a faulty one is told with its number, and nothing is written
+-- a cell that is listed twice is united; behind a blank line a faulty one is reported with its number, and nothing is written
 united : answer UniteCells (codes "8029fffffffffff" ++ 10 ∷ codes "8029fffffffffff") [] ≡ written (codes "8029fffffffffff" ++ 10 ∷ [])
 unfolding cell_in address_in number_of parsed_index text_of compacted cells_up_to cells_of descendants paths
 united = refl

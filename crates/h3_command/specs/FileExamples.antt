@@ -25,6 +25,7 @@ commas choice has_header = record {
   has_header = has_header;
   names = [] ∷ [];
   empty = [];
+  quoted_answers = false;
   keeps_going = false;
   shows_errors = false;
   is_ragged = false;

@@ -34,7 +34,7 @@ abbrev pub unless_error : CellFile → Option H3Error → List Address → Resul
 unless_error file None cells = Ok cells
 unless_error file (Some e) cells = Err (File file e)
 
--- the cells of a list, where they have no error as a whole; that of its first faulty line is told with this number
+-- the cells of a list, where they have no error as a whole; that of its first faulty line is reported with this number
 abbrev pub judged_cells : CellFile → ℕ → Result (List Address) H3Error → Result (List Address) AnswerError
 judged_cells file line (Ok cells) = unless_error file (file_error file cells) cells
 judged_cells file line (Err e) = Err (FileAt file line e)
@@ -64,10 +64,10 @@ abbrev pub file_cells : CellFile → Option Form → List ℕ → Result (List A
 file_cells file None bytes = judged_cells file (faulty_line bytes) (listed_cells bytes)
 file_cells file (Some form) bytes = judged_rows file (cells_of_table form bytes)
 
--- unless_refused about cells: the answer about the cells of a file, or of rows; where these are refused, that error and no
--- output
-abbrev pub unless_refused : (List Address → Answer) → Result (List Address) AnswerError → Answer
-unless_refused about (Ok cells) = about cells
+-- unless_refused about read: the answer about what is read of a file, or of rows; where these are refused, that error and
+-- no output
+abbrev pub unless_refused : {A : Type 0} → (A → Answer) → Result A AnswerError → Answer
+unless_refused about (Ok value) = about value
 unless_refused about (Err e) = record { output = []; ending = Err e }
 
 -- ---- the cells of a list and those of a file

@@ -1,4 +1,10 @@
 pub mod Answer
+pub mod AreaCountExamples
+pub mod AreaCounts
+pub mod AreaExamples
+pub mod AreaTable
+pub mod AreaTally
+pub mod Areas
 pub mod Combination
 pub mod CountLines
 pub mod Counts
@@ -7,11 +13,13 @@ pub mod Examples
 pub mod FileExamples
 pub mod FileQuery
 pub mod Files
+pub mod Join
 pub mod Listed
 pub mod Long
 pub mod LongAnswers
 pub mod LongExamples
 pub mod NewColumns
+pub mod Plan
 pub mod Required
 pub mod Rows
 pub mod Run
@@ -20,4 +28,3 @@ pub mod TableLines
 pub mod TableLists
 pub mod TableQuery
 pub mod WordsQuery
-pub mod Work

@@ -19,7 +19,7 @@ abbrev pub RefusesCells : Option Form → SourceUse → RunError → Type 0
 RefusesCells None input e = ListRefused RefusesByError (2 ^ 40) 65536 input e
 RefusesCells (Some form) input e = RefusesRows form input.left input.left_after input.had_failed input.has_failed e
 
--- the same, where the error of a faulty line is told with its number
+-- the same, where the error of a faulty line is reported with its number
 abbrev pub RefusesNumbered : Option Form → SourceUse → RunError → Type 0
 RefusesNumbered None input e = ListRefused RefusesByLine (2 ^ 40) 65536 input e
 RefusesNumbered (Some form) input e = RefusesRows form input.left input.left_after input.had_failed input.has_failed e

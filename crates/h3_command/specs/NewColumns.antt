@@ -1,7 +1,7 @@
 -- What stands in the new columns of rows: each line of an answer is a word of lower-case letters and digits, or two of them,
--- and so one field, or two, whatever byte separates fields; and the name of an error is one field, unless that is an
--- underscore.
-use Rattle.std.specs.Prelude.{◌≡◌, ⊤, ℕ, nat_le, Bool, true, false, ◌==◌, not, ◌&&◌, ◌||◌, List, [], ◌∷◌, ◌++◌, All, Option}
+-- and so one field, or two, whatever byte separates fields; or it is the name of an area, which is one field of its table's
+-- form; and the name of an error is one field, unless an underscore separates fields.
+use Rattle.std.specs.Prelude.{◌≡◌, ⊤, ℕ, nat_le, Bool, true, false, ◌==◌, not, ◌&&◌, ◌||◌, List, [], ◌∷◌, ◌++◌, All, Option, None, Some, Ok}
 use Rattle.std.specs.List.{flat_map, list_all}
 use Rattle.h3_index.specs.Cell.{Address}
 use Rattle.h3_table.specs.Links.{Links}
@@ -11,14 +11,19 @@ use Rattle.h3_lines.specs.declared.run_error.RowError.{RowError}
 use Rattle.h3_requests.specs.Rows.{is_separator}
 use Rattle.h3_requests.specs.declared.command.Command.{Command}
 use Rattle.h3_requests.specs.declared.command.Command.TheVariants as command
+use Rattle.h3_requests.specs.declared.rows.AreaOptions.{AreaOptions}
 use Rattle.h3_requests.specs.declared.rows.RowOptions.{RowOptions}
 use Rattle.h3_requests.specs.declared.rows.Tables.{Tables}
 use Rattle.h3_rows.specs.Laws.{IsWholeOrRefused}
-use Rattle.h3_lines.specs.Pieces.{cut, inside_after, is_uncut}
+use Rattle.h3_lines.specs.Pieces.{Uncut, cut, inside_after, is_uncut}
+use Rattle.h3_rows.specs.Named.{Entry, table_of}
+use Rattle.h3_rows.specs.Row.{quotes_are_sound}
 use Rattle.h3_rows.specs.RowsAnswer.{row_with, rows_with}
 use Rattle.h3_command.specs.Answer.{Request, request_of}
-use Rattle.h3_command.specs.Answer.Request.{of_file_and_lines, of_file_and_list, of_lines, of_list, of_numbered_list, of_table, of_table_and_lines, plain}
+use Rattle.h3_command.specs.Answer.Request.{of_areas_and_lines, of_areas_and_list, of_file_and_lines, of_file_and_list, of_lines, of_list, of_numbered_list, of_table, of_table_and_lines, plain}
+use Rattle.h3_command.specs.Areas.{areas_of_file}
 use Rattle.h3_command.specs.LongAnswers.{between_parts}
+use Rattle.h3_command.specs.Rows.{title_or_zone}
 
 -- ---- words, and lines of them
 
@@ -33,6 +38,15 @@ IsWord text = list_all is_lower_or_digit text ≡ true
 -- IsPairOfWords between text: two such words with a byte between them
 abbrev pub IsPairOfWords : ℕ → List ℕ → Type 0
 IsPairOfWords between text = (a : List ℕ) × (b : List ℕ) × IsWord a × IsWord b × (text ≡ a ++ (between ∷ b))
+
+-- IsField separator quotes text: one field of a form of rows: outside quotes that count it has no separator, no line feed and,
+-- if quotes count, no carriage return; no such quote is open at its end; and if quotes count, those in it are sound
+pub record IsField (separator : ℕ) (quotes : Bool) (text : List ℕ) : Type 0 where
+  pub in_row : is_uncut separator quotes false text ≡ true
+  pub in_line : is_uncut 10 quotes false text ≡ true
+  pub returnless : quotes ≡ true → is_uncut 13 quotes false text ≡ true
+  pub closed : inside_after quotes false text ≡ false
+  pub sound : quotes ≡ true → quotes_are_sound separator text ≡ true
 
 -- AreLinesOf Is text: the text is lines, each of them so, and ended by a line feed
 abbrev pub AreLinesOf : (List ℕ → Type 0) → List ℕ → Type 0
@@ -50,12 +64,22 @@ AnswersBy Is (of_table about) = ⊤
 AnswersBy Is (of_file_and_list f rows form about) = ⊤
 AnswersBy Is (of_file_and_lines f rows form about) = (cells : List Address) (index : Option ℕ) → Is (about cells index)
 AnswersBy Is (of_table_and_lines form about) = (link : Links) (index : Option ℕ) → Is (about link index)
+AnswersBy Is (of_areas_and_list table form about) = ⊤
+AnswersBy Is (of_areas_and_lines table form about) =
+    (bytes : List ℕ) (entries : List Entry) (index : Option ℕ) → areas_of_file table bytes ≡ Ok entries → Is (about entries index)
 
--- IsAnswerLine rows command: what each line of a command's answer to an index is: a word, or a cell and its distance
--- with the byte of `between_parts` between them
-abbrev pub IsAnswerLine : Option RowOptions → Command → List ℕ → Type 0
-IsAnswerLine rows (command.GridDisksDistancesUnsafe k) = IsPairOfWords (between_parts rows)
-IsAnswerLine rows c = IsWord
+-- IsZoneLine areas: what each line of the answer of `cellsToZones` is: a word, or, if the zones have names, one field of their
+-- table's form
+abbrev pub IsZoneLine : Option AreaOptions → List ℕ → Type 0
+IsZoneLine None = IsWord
+IsZoneLine (Some areas) = IsField areas.table.rows.separator areas.table.rows.quotes
+
+-- IsAnswerLine tables command: what each line of a command's answer to an index is: a word; a cell and its distance with the
+-- byte of `between_parts` between them; or as `IsZoneLine` says
+abbrev pub IsAnswerLine : Tables → Command → List ℕ → Type 0
+IsAnswerLine tables (command.GridDisksDistancesUnsafe k) = IsPairOfWords (between_parts tables.list)
+IsAnswerLine tables command.CellsToZones = IsZoneLine tables.areas
+IsAnswerLine tables c = IsWord
 
 -- AreAnswerLines Is a: the answer is lines that are so, with no error after them, or the error of a call alone
 abbrev pub AreAnswerLines : (List ℕ → Type 0) → Answer → Type 0
@@ -65,7 +89,7 @@ AreAnswerLines Is a = AreLinesOf Is a.output × IsWholeOrRefused a
 -- error
 abbrev pub AnswersAreWords : Type 0
 AnswersAreWords = (tables : Tables) (c : Command)
-    → AnswersBy (AreAnswerLines (IsAnswerLine tables.list c)) (request_of tables c)
+    → AnswersBy (AreAnswerLines (IsAnswerLine tables c)) (request_of tables c)
 
 -- ---- beside their rows
 
@@ -94,6 +118,21 @@ abbrev pub WordPairsAreKept : Type 0
 WordPairsAreKept = (separator : ℕ) (quotes : Bool) (row a b : List ℕ) → is_separator separator ≡ true → inside_after quotes false row ≡ false → IsWord a → IsWord b
     → cut separator quotes false (row ++ (separator ∷ (a ++ (separator ∷ b)))) ≡ cut separator quotes false row ++ (a, false) ∷ (b, false) ∷ []
 
+-- TitlesAreFields: the name that the new column gets of a table of zones with names is one field of the table's form
+abbrev pub TitlesAreFields : Type 0
+TitlesAreFields = (areas : AreaOptions) (bytes : List ℕ) (entries : List Entry) → areas_of_file (table_of areas.table) bytes ≡ Ok entries
+    → IsField areas.table.rows.separator areas.table.rows.quotes (title_or_zone entries)
+
+-- NamesAreKept: if the list and the table of zones are cut alike, the fields of a row with the name of an area are those of the
+-- row, and then the name; and, if quotes count, those that are sound in the row stay so, and a row without a carriage return
+-- outside quotes stays without one
+abbrev pub NamesAreKept : Type 0
+NamesAreKept = (rows : RowOptions) (areas : AreaOptions) (row name : List ℕ) → areas.table.rows.separator ≡ rows.separator → areas.table.rows.quotes ≡ rows.quotes
+    → inside_after rows.quotes false row ≡ false → IsZoneLine (Some areas) name
+    → (cut rows.separator rows.quotes false (row ++ rows.separator ∷ name) ≡ cut rows.separator rows.quotes false row ++ (name, false) ∷ [])
+    × (rows.quotes ≡ true → quotes_are_sound rows.separator row ≡ true → quotes_are_sound rows.separator (row ++ rows.separator ∷ name) ≡ true)
+    × (rows.quotes ≡ true → is_uncut 13 true false row ≡ true → is_uncut 13 true false (row ++ rows.separator ∷ name) ≡ true)
+
 -- ErrorNamesAreFields: the name of a row's error is one field of any form of rows whose separator is no underscore (95): it
 -- has no byte that separates fields, no quote and no line end. (`missing` is a word.)
 abbrev pub ErrorNamesAreFields : Type 0
@@ -106,8 +145,8 @@ abbrev pub ErrorNamesAreKept : Type 0
 ErrorNamesAreKept = (separator : ℕ) (quotes : Bool) (row : List ℕ) (e : RowError) → is_separator separator ≡ true → (separator == 95) ≡ false → inside_after quotes false row ≡ false
     → cut separator quotes false (row ++ separator ∷ row_error_name e) ≡ cut separator quotes false row ++ (row_error_name e, false) ∷ []
 
--- RowsStandOnce: a row stands once for each line of its answer, with that line and what is after it, where no line has a line
--- feed in it
+-- RowsStandOnce: a row stands once for each line of its answer, with that line and what is after it, where each line feed in a
+-- line is inside quotes that count in it, and none of these stays open
 abbrev pub RowsStandOnce : Type 0
-RowsStandOnce = (separator : ℕ) (after row : List ℕ) (lines : List (List ℕ)) → All (λ line. is_uncut 10 false false line ≡ true) lines
-    → rows_with separator after row (flat_map (λ line. line ++ 10 ∷ []) lines) ≡ flat_map (λ line. row_with separator row (line ++ after)) lines
+RowsStandOnce = (separator : ℕ) (quotes : Bool) (after row : List ℕ) (lines : List (List ℕ)) → All (λ line. Uncut 10 quotes false line false) lines
+    → rows_with separator quotes after row (flat_map (λ line. line ++ 10 ∷ []) lines) ≡ flat_map (λ line. row_with separator row (line ++ after)) lines

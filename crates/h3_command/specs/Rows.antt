@@ -1,11 +1,13 @@
 -- Lists, bare or of rows: answered line by line, where each row is written with the answer to its own cell beside it, or by
 -- their cells as a whole.
-use Rattle.std.specs.Prelude.{ℕ, List, [], Option, None, Some, option_map}
+use Rattle.std.specs.Prelude.{ℕ, Bool, false, List, [], Option, None, Some, codes, option_map, unwrap_or}
 use Rattle.h3_lines.specs.Answer.{Answer}
 use Rattle.h3_lines.specs.EachLine.{list_answer}
 use Rattle.h3_requests.specs.declared.rows.RowOptions.{RowOptions}
 use Rattle.h3_requests.specs.declared.rows.Tables.{Tables}
-use Rattle.h3_rows.specs.RowForm.{form_of, pair_form_of}
+use Rattle.h3_rows.specs.Areas.{title_of}
+use Rattle.h3_rows.specs.Named.{Entry}
+use Rattle.h3_rows.specs.RowForm.{form_of, pair_form_of, text_form_of}
 use Rattle.h3_rows.specs.RowsAnswer.{Form}
 use Rattle.h3_rows.specs.RowsAnswer.{list_answer as row_answers}
 
@@ -16,6 +18,19 @@ rows_form rows name = option_map (λ options. form_of options name) rows
 -- pair_form rows: the same where an answer is a cell and its distance, which have a new column each
 abbrev pub pair_form : Option RowOptions → Option Form
 pair_form rows = option_map pair_form_of rows
+
+-- text_form rows quotes name: the same where an answer is a text of any length; `quotes` says whether quotes count in it
+abbrev pub text_form : Option RowOptions → Bool → List ℕ → Option Form
+text_form rows quotes name = option_map (λ options. text_form_of quotes options name) rows
+
+-- title_or_zone entries: the name of the column of names in a table's header, or else `zone`
+abbrev pub title_or_zone : List Entry → List ℕ
+title_or_zone entries = unwrap_or (title_of entries) (codes "zone")
+
+-- area_form rows quotes entries: the same where an answer is the name of an area of a table: the new column's name is that of
+-- `--as`, else that of the column of names in the table's header, else `zone`
+abbrev pub area_form : Option RowOptions → Bool → List Entry → Option Form
+area_form rows quotes entries = text_form rows quotes (title_or_zone entries)
 
 -- list_form rows: the form of a list's rows, if it has rows, of which the cells alone are read: no column is added
 abbrev pub list_form : Option RowOptions → Option Form

@@ -22,10 +22,13 @@ use Rattle.h3_lines.specs.Reads.{IsListWithinReads, IsReadToEnd, IsWithinReads, 
 use Rattle.h3_lines.specs.RunError.{ending_of}
 use Rattle.h3_rows.specs.Each.{EndsRows}
 use Rattle.h3_rows.specs.Cells.{AllRowsRead, RefusesRows, RefusesRowsInPage, RowsReadTo, begun_cells}
+use Rattle.h3_rows.specs.Named.{Entry, NamedReadTo, RefusesNamedInPage, begun_named}
+use Rattle.h3_rows.specs.Named.{Table as NamedTable}
 use Rattle.h3_rows.specs.RowsAnswer.{Form, begun_answer, rows_answer}
+use Rattle.h3_command.specs.Areas.{areas_of_file, entries_of_table}
 use Rattle.h3_command.specs.Files.{cells_of_table, file_cells}
 use Rattle.h3_command.specs.Answer.{Request, about_list, about_numbered_list, about_table, answer_to, reads_list_after, reads_table, takes_memory}
-use Rattle.h3_command.specs.Answer.Request.{plain, of_file_and_lines, of_file_and_list, of_lines, of_list, of_numbered_list, of_table, of_table_and_lines}
+use Rattle.h3_command.specs.Answer.Request.{plain, of_areas_and_lines, of_areas_and_list, of_file_and_lines, of_file_and_list, of_lines, of_list, of_numbered_list, of_table, of_table_and_lines}
 
 -- ---- streams
 
@@ -75,7 +78,7 @@ WritesOfList about input ending out =
     (list : List ℕ) × HasLeft input.left list × WritesReading (about_list None about list) list (IsListWithinReads (2 ^ 40) 65536 list) input ending out
     × IsReadSoFar (listed_cells list) input ending
 
--- WritesOfNumberedList about input ending out: the same, where the error of a faulty line is told with its number
+-- WritesOfNumberedList about input ending out: the same, where the error of a faulty line is reported with its number
 abbrev pub WritesOfNumberedList : (List Address → Answer) → SourceUse → Result (Unit {0}) RunError → SinkUse → Type 0
 WritesOfNumberedList about input ending out =
     (list : List ℕ) × HasLeft input.left list × WritesReading (about_numbered_list None about list) list (IsListWithinReads (2 ^ 40) 65536 list) input ending out
@@ -105,7 +108,7 @@ abbrev pub EndsList : Option Form → (List Address → Answer) → SourceUse �
 EndsList None about input ending out = WritesOfList about input ending out
 EndsList (Some form) about input ending out = WritesOfRows form about input ending out
 
--- EndsNumberedList form about input ending out: the same, where the error of a faulty line is told with its number
+-- EndsNumberedList form about input ending out: the same, where the error of a faulty line is reported with its number
 abbrev pub EndsNumberedList : Option Form → (List Address → Answer) → SourceUse → Result (Unit {0}) RunError → SinkUse → Type 0
 EndsNumberedList None about input ending out = WritesOfNumberedList about input ending out
 EndsNumberedList (Some form) about input ending out = WritesOfRows form about input ending out
@@ -218,6 +221,52 @@ EndsOverTable then_ends input table ending out =
     (bytes : List ℕ) × HasLeft table.left bytes
     × (((link : Links) × GivesTable bytes table link × then_ends link) ⊎ (RefusesTableFile bytes table ending × IsLeftAlone input × IsLeft out))
 
+-- IsNamedReadTo table n bytes file: a part of these bytes of a table of zones with names is read, and then at most n bytes
+-- more; the rows that end in the part have no error, and the one that does not has at most 1,114,111 bytes in it
+pub record IsNamedReadTo (table : NamedTable) (most : ℕ) (bytes : List ℕ) (file : SourceUse) : Type 0 where
+  pub stop : NamedReadTo table most file.left file.left_after
+  pub of : stop.part ++ stop.last ++ stop.rest ≡ bytes
+
+-- IsNamedReadSoFar table entries bytes file: how far a table of zones with names is read that is refused: to its end if none
+-- of its rows has an error, since it is then refused as a whole, or its header did not come; and else at most a page
+-- further than rows that have no error, in reads that may be made
+abbrev pub IsNamedReadSoFar : NamedTable → Result (List Entry) AnswerError → List ℕ → SourceUse → Type 0
+IsNamedReadSoFar table (Ok entries) bytes file = IsFileReadWhole bytes file
+IsNamedReadSoFar table (Err e) bytes file =
+    (IsFileReadWhole bytes file × IsOk (begun_named table (rows_of table.form.quotes bytes)))
+    ⊎ ((refused : RefusesNamedInPage table e file.left file.left_after)
+    × (refused.stop.part ++ refused.stop.last ++ refused.stop.rest ≡ bytes))
+
+-- RefusesAreas table bytes file ending: the bytes of a table of zones with names are refused, and read as `IsNamedReadSoFar`
+-- says; or there is no memory, and they are read to their end, if none of the rows has an error, or as `IsNamedReadTo` says;
+-- or a read fails, and they are read no further than rows without an error
+abbrev pub RefusesAreas : NamedTable → List ℕ → SourceUse → Result (Unit {0}) RunError → Type 0
+RefusesAreas table bytes file (Ok u) = ⊥
+RefusesAreas table bytes file (Err (Fault Memory)) =
+    NoReadFails file × ((IsFileReadWhole bytes file × IsOk (entries_of_table table bytes)) ⊎ IsNamedReadTo table 65536 bytes file)
+RefusesAreas table bytes file (Err (Fault Read)) = ReadFails file bytes × IsNamedReadTo table 0 bytes file
+RefusesAreas table bytes file (Err (Fault Write)) = ⊥
+RefusesAreas table bytes file (Err (Error e)) =
+    (areas_of_file table bytes ≡ Err e) × NoReadFails file × IsNamedReadSoFar table (entries_of_table table bytes) bytes file
+
+-- GivesAreas table bytes file entries: the bytes of a table of zones with names are read to their end, have these cells with
+-- their names, and no two of its areas overlap
+pub record GivesAreas (table : NamedTable) (bytes : List ℕ) (file : SourceUse) (entries : List Entry) : Type 0 where
+  pub is : areas_of_file table bytes ≡ Ok entries
+  pub within : IsWithinReads (2 ^ 40) 65536 bytes
+  pub sound : NoReadFails file
+  pub whole : IsReadToEnd file
+
+-- EndsOverAreas table then_ends input file ending out: there are bytes of a table of zones with names, those left where
+-- known, which are read first: `then_ends` says of its cells with their names what follows; or they are refused, and
+-- standard input is left alone and nothing is written
+abbrev pub EndsOverAreas : NamedTable → (List Entry → Type 0) → SourceUse → SourceUse → Result (Unit {0}) RunError → SinkUse
+    → Type 0
+EndsOverAreas table then_ends input file ending out =
+    (bytes : List ℕ) × HasLeft file.left bytes
+    × (((entries : List Entry) × GivesAreas table bytes file entries × then_ends entries)
+    ⊎ (RefusesAreas table bytes file ending × IsLeftAlone input × IsLeft out))
+
 -- Ends r input table ending out: how a run may end, by its request
 abbrev pub Ends : Request → SourceUse → SourceUse → Result (Unit {0}) RunError → SinkUse → Type 0
 Ends (plain a) input table ending out = Writes a ending out
@@ -231,6 +280,10 @@ Ends (of_file_and_lines f rows form about) input file ending out =
     EndsOverFile f rows (λ cells. EndsLines form (about cells) input ending out) input file ending out
 Ends (of_table_and_lines form about) input table ending out =
     EndsOverTable (λ link. EndsLines form (about link) input ending out) input table ending out
+Ends (of_areas_and_lines table form about) input file ending out =
+    EndsOverAreas table (λ entries. EndsLines (form entries) (about entries) input ending out) input file ending out
+Ends (of_areas_and_list table form about) input file ending out =
+    EndsOverAreas table (λ entries. EndsNumberedList form (about entries) input ending out) input file ending out
 
 -- ---- where nothing fails
 

@@ -40,7 +40,7 @@ use h3_requests::RowOptions;
 use h3_streams::{Sink, Source};
 use std::alloc::Global;
 
-/// The error of a list, as that of a file.
+/// An error of a file's list, with the file's kind.
 fn error_of_file(file: CellFile, error: AnswerError) -> AnswerError
     ensures { result ≡ error_of_file file error }
 {
@@ -52,8 +52,8 @@ fn error_of_file(file: CellFile, error: AnswerError) -> AnswerError
     }
 }
 
-/// The refusal of a list, told as that of a file.
-fn in_file(file: CellFile, refusal: RunError) -> RunError
+/// Adds the file's kind to an error of its list.
+pub(crate) fn in_file(file: CellFile, refusal: RunError) -> RunError
     ensures { result ≡ in_file file refusal }
 {
     match refusal {
@@ -124,7 +124,7 @@ pub(crate) fn copied(alloc: Global, cells: &[Cell]) -> Result<Vec<Cell>, RunErro
 }
 
 /// Slots for so many cells. `Fault::Memory` where there is none for them.
-fn slots_for(alloc: Global, count: usize) -> Result<Vec<Cell>, RunError>
+pub(crate) fn slots_for(alloc: Global, count: usize) -> Result<Vec<Cell>, RunError>
     ensures ok { IfOk result (λ slots. length slots.items ≡ count) }
     ensures err { IfErr result (λ e. e ≡ refusal.Fault Memory) }
 {

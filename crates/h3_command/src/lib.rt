@@ -1,6 +1,9 @@
 //! The commands of the program `h3`, and how they run over streams.
 #![tactic(auto)]
 
+mod area_counts;
+mod area_names;
+mod areas;
 mod children;
 mod count_lines;
 mod counts;
@@ -11,6 +14,7 @@ pub mod laws;
 mod listed;
 mod long;
 mod per_index;
+mod plan;
 mod required;
 mod rows;
 pub mod run;
@@ -21,4 +25,3 @@ mod table_query;
 mod uncompacted_lines;
 mod walks;
 mod words_query;
-mod work;

@@ -7,13 +7,16 @@ ghost use Rattle.h3_lines.specs.Reads.{source_use};
 ghost use Rattle.h3_lines.specs.Write.{sink_use};
 ghost use Rattle.h3_command.specs.Answer.{answer_for};
 ghost use Rattle.h3_command.specs.LongAnswers.{between_parts};
-ghost use Rattle.h3_command.specs.Rows.{pair_form, rows_form};
+ghost use Rattle.h3_command.specs.Rows.{pair_form, rows_form, text_form};
 ghost use Rattle.h3_command.specs.Run.{EndsLines};
 
 use crate::per_index::{AnswerOf, index_functions};
-use h3_lines::{AnswerLine, LinesFunction, RunError, answer_each, answer_each_lines};
+use h3_lines::{
+    AnswerLine, LinesFunction, RunError, TextFunction, answer_each, answer_each_lines,
+    answer_each_text,
+};
 use h3_requests::{IndexFunction, RowOptions};
-use h3_rows::{answer_rows, answer_rows_lines};
+use h3_rows::{answer_rows, answer_rows_lines, answer_rows_text};
 use h3_streams::{Sink, Source};
 use std::alloc::Global;
 
@@ -50,6 +53,25 @@ pub(crate) fn answer_listed<R: Source, W: Sink, F: AnswerLine>(
     match rows {
         None => answer_each(alloc, function, input, out),
         Some(options) => answer_rows(alloc, options, name.as_bytes(), function, input, out),
+    }
+}
+
+/// The same with a function whose answers are texts of any length.
+pub(crate) fn answer_listed_texts<R: Source, W: Sink, F: TextFunction>(
+    alloc: Global,
+    rows: &Option<RowOptions>,
+    name: &[u8],
+    function: &F,
+    input: &mut R,
+    out: &mut W,
+) -> Result<(), RunError>
+    ensures { EndsLines (text_form rows.now (F.counts_quotes function.now) name.now)
+        (F.answer_of function.now) (source_use R.left R.has_failed input.old input.new) result
+        (sink_use W.taken W.has_failed out.old out.new) }
+{
+    match rows {
+        None => answer_each_text(alloc, function, input, out),
+        Some(options) => answer_rows_text(alloc, options, name, function, input, out),
     }
 }
 

@@ -3,19 +3,25 @@
 ghost use Rattle.std.specs.Prelude.{◌≡◌, false, true};
 ghost use Rattle.h3_lines.specs.Reads.{source_use};
 ghost use Rattle.h3_lines.specs.Write.{sink_use};
+ghost use Rattle.h3_rows.specs.Areas.{NamesStandOnce};
 ghost use Rattle.h3_rows.specs.Laws.{FieldsAreKept, HeaderStands, MarksAreKept, OutputReadsBack, RowsAreWhole, RowsGiveBack, RowsStand, RowsStandUntil};
+ghost use Rattle.h3_command.specs.AreaCounts.{AreaCountsPrintedAddUp};
 ghost use Rattle.h3_command.specs.Answer.{reads_list, reads_table, request, request_of};
 ghost use Rattle.h3_command.specs.Files.{CountsPrintedAddUp};
-ghost use Rattle.h3_command.specs.NewColumns.{AnswersAreWords, ErrorNamesAreFields, ErrorNamesAreKept, RowsStandOnce, WordPairsAreKept, WordPairsAreUncut, WordsAreFields, WordsAreKept};
+ghost use Rattle.h3_command.specs.Join.{CellsGetTheirNames, OthersGetNone};
+ghost use Rattle.h3_command.specs.NewColumns.{AnswersAreWords, ErrorNamesAreFields, ErrorNamesAreKept, NamesAreKept, RowsStandOnce, TitlesAreFields, WordPairsAreKept, WordPairsAreUncut, WordsAreFields, WordsAreKept};
 ghost use Rattle.h3_command.specs.Run.{Ends, Runs};
 
+use crate::area_counts::count_over_areas;
+use crate::areas::answer_over_areas;
 use crate::children::cells_to_children;
 use crate::file_query::FileQuery::*;
 use crate::file_query::answer_over_file;
 use crate::files::Combination::*;
-use crate::laws::answers_are_fields;
+use crate::laws::{answers_are_fields, area_counts_add_up, cells_get_their_names};
 use crate::listed::{answer_whole, answer_whole_numbered};
 use crate::per_index::write_answer_for;
+use crate::plan::{Plan, plan_of};
 use crate::rows::answer_function;
 use crate::sets::*;
 use crate::sizes::uncompact_cells_size;
@@ -23,7 +29,6 @@ use crate::table_lists::TableLines::*;
 use crate::table_lists::answer_over_table;
 use crate::table_query::over_table;
 use crate::words_query::write_words_answer;
-use crate::work::{Work, work_of};
 use h3_lines::{RunError, report};
 use h3_regions::laws::counts_add_up;
 use h3_requests::Command::*;
@@ -53,8 +58,14 @@ fn run_file_then_list<R: Source, T: Source, W: Sink>(
         IntersectCells => answer_over_file(alloc, Combined(Shared), tables, input, table, out),
         SubtractCells => answer_over_file(alloc, Combined(Left), tables, input, table, out),
         AreCoveredCells => answer_over_file(alloc, Covered, tables, input, table, out),
-        CellsToZones => answer_over_file(alloc, Zones, tables, input, table, out),
-        CountCellsInZones => answer_over_file(alloc, Counts, tables, input, table, out),
+        CellsToZones => match &tables.areas {
+            None => answer_over_file(alloc, Zones, tables, input, table, out),
+            Some(areas) => answer_over_areas(alloc, areas, rows, input, table, out),
+        },
+        CountCellsInZones => match &tables.areas {
+            None => answer_over_file(alloc, Counts, tables, input, table, out),
+            Some(areas) => count_over_areas(alloc, areas, rows, input, table, out),
+        },
         GridDisksUnsafe { k } => answer_over_table(alloc, Disk { k }, rows, input, table, out),
         GridDisksDistancesUnsafe { k } => {
             answer_over_table(alloc, DiskDistances { k }, rows, input, table, out)
@@ -109,18 +120,20 @@ fn perform<R: Source, T: Source, W: Sink>(
     ensures input_kept { reads_list (request_of tables.now command.now) ≡ false → input.new ≡ input.old }
     ensures table_kept { reads_table (request_of tables.now command.now) ≡ false → table.new ≡ table.old }
 {
-    match work_of(command) {
-        Work::Index(function, index) => write_answer_for(function, index, out),
-        Work::Words(query) => write_words_answer(query, out),
-        Work::Table(query) => over_table(alloc, query, table, out),
-        Work::List => perform_over_list(alloc, command, tables, input, table, out),
+    match plan_of(command) {
+        Plan::Index(function, index) => write_answer_for(function, index, out),
+        Plan::Words(query) => write_words_answer(query, out),
+        Plan::Table(query) => over_table(alloc, query, table, out),
+        Plan::List => perform_over_list(alloc, command, tables, input, table, out),
     }
 }
 
-/// Runs a command, as `run` does, over a list and a file of cells that have rows, if `tables` says how
-/// these are read and written. A command that answers line by line then writes each row of the list
+/// Like [`run`], but reads the list, and the file of cells, as rows if `tables` says how these are
+/// read and written. A command that answers line by line then writes each row of the list
 /// with the answer to its own cell beside it. One that answers about its list as a whole takes the cells
-/// of the rows as the list. Of the rows of a file the cells are taken.
+/// of the rows as the list. Of the rows of a file the cells are taken; or, by `cellsToZones`, the cells
+/// with their names, if `tables.areas` says how these are read. It then answers a cell with the name of its
+/// area, and two areas that overlap are an error before the list is read.
 pub fn run_over<R: Source, T: Source, W: Sink, E: Sink>(
     alloc: Global,
     command: &Command,
@@ -146,6 +159,9 @@ pub fn run_over<R: Source, T: Source, W: Sink, E: Sink>(
     // A law, whatever the command: what is printed of the counts of zones adds up to the list.
     ensures counts { CountsPrintedAddUp }
 
+    // The same of the counts of areas.
+    ensures area_counts { AreaCountsPrintedAddUp }
+
     // Laws, whatever the rows: each stands in the output with the answers to its own cell, up to the row
     // that ends the answer, and the rows are the list again, as are the fields of a row without the new
     // one. A header stands whole before the new names. Read again, the output has these rows and no
@@ -170,10 +186,21 @@ pub fn run_over<R: Source, T: Source, W: Sink, E: Sink>(
     ensures pairs { WordPairsAreKept }
     ensures errors_uncut { ErrorNamesAreFields }
     ensures errors { ErrorNamesAreKept }
+
+    // Laws of the zones with names: a cell gets the name of each row of the table that covers it, and
+    // what is written for none if no row does. Where the list is cut as the table is, a name is one field
+    // beside its row; and so is the name that the new column gets of the table.
+    ensures join { CellsGetTheirNames }
+    ensures others { OthersGetNone }
+    ensures once_named { NamesStandOnce }
+    ensures titles { TitlesAreFields }
+    ensures names { NamesAreKept }
 {
     counts_add_up();
     answers_stand_beside();
     answers_are_fields();
+    cells_get_their_names();
+    area_counts_add_up();
     let ending = perform(alloc, command, tables, input, table, out);
     report(err, ending)
 }
@@ -220,6 +247,7 @@ pub fn run<R: Source, T: Source, W: Sink, E: Sink>(
     let tables = Tables {
         list: None,
         file: None,
+        areas: None,
     };
     run_over(alloc, command, &tables, input, table, out, err)
 }

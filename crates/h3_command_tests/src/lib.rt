@@ -2,6 +2,8 @@
 #![tactic(auto)]
 
 #[cfg(test)]
+mod area_counts;
+#[cfg(test)]
 mod cases;
 #[cfg(test)]
 mod edges;
@@ -29,6 +31,8 @@ mod runs;
 mod table_files;
 #[cfg(test)]
 mod tables_of_cells;
+#[cfg(test)]
+mod tables_of_names;
 #[cfg(test)]
 mod walks;
 #[cfg(test)]

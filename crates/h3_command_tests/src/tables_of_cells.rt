@@ -57,6 +57,7 @@ fn over_table(
     let tables = Tables {
         list: None,
         file: Some(options(alloc, columns)?),
+        areas: None,
     };
     Ok(over_tables(alloc, row, Some(&tables), most, failing))
 }
@@ -405,6 +406,7 @@ fn answers_over_both(alloc: Global, row: &FileRow) -> Result<bool, AllocError> {
     let tables = Tables {
         list: Some(options(alloc, Columns::Named("cell"))?),
         file: Some(options(alloc, Columns::Second)?),
+        areas: None,
     };
     let run = over_tables(alloc, row, Some(&tables), 16, WELL);
     Ok(run.is(row.3, row.4, u8::from(!row.4.is_empty())))

@@ -3,14 +3,16 @@
 //! an edge over one in format 2, the resolution of each cell of a list, a list of cells that
 //! overlap, united, the five commands over that list and a file of cells, of a cell that is listed its
 //! children, its disk, and of an edge the cell that it leads to, and the zones of that list over a table
-//! of cells.
+//! of cells, by themselves and by name, and its counts by these names.
 //! `tests/command/memory` refuses each allocation of it in turn.
 #![tactic(auto)]
 
 use arrayvec::ArrayVec;
 use h3_command::run::run_over;
 use h3_fakes::{bases_file, table_file};
-use h3_requests::{CellField, Command, IndexFunction, RowOptions, Tables};
+use h3_requests::{
+    AreaOptions, CellField, Command, IndexFunction, RowOptions, TableOptions, Tables,
+};
 use h3_streams::Streamed;
 use h3_table::vectors::TestTable;
 use itoa::Buffer;
@@ -65,6 +67,17 @@ fn row_options() -> RowOptions {
         keeps_going: false,
         shows_errors: false,
         is_ragged: false,
+    }
+}
+
+/// How the areas of that table are read, whose names are in its first field.
+fn area_options(alloc: Global) -> AreaOptions {
+    AreaOptions {
+        table: TableOptions {
+            rows: row_options(),
+            name: CellField::Number(1),
+        },
+        none: String::new(alloc),
     }
 }
 
@@ -129,6 +142,7 @@ fn main(rt: HostRuntime) -> io::Result<()> {
     let bare = Tables {
         list: None,
         file: None,
+        areas: None,
     };
     for (command, reads) in &runs {
         print_run(rt.alloc(), command, &bare, *reads, &mut stdout)?;
@@ -136,13 +150,17 @@ fn main(rt: HostRuntime) -> io::Result<()> {
     let tables = Tables {
         list: None,
         file: Some(row_options()),
+        areas: None,
     };
     let reads = (OVERLAPPING, ROWS);
-    print_run(
-        rt.alloc(),
-        &Command::CellsToZones,
-        &tables,
-        reads,
-        &mut stdout,
-    )
+    let zones = Command::CellsToZones;
+    print_run(rt.alloc(), &zones, &tables, reads, &mut stdout)?;
+    let named = Tables {
+        list: None,
+        file: None,
+        areas: Some(area_options(rt.alloc())),
+    };
+    print_run(rt.alloc(), &zones, &named, reads, &mut stdout)?;
+    let counts = Command::CountCellsInZones;
+    print_run(rt.alloc(), &counts, &named, reads, &mut stdout)
 }

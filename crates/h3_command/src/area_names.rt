@@ -1,0 +1,52 @@
+//! The name of a cell's area. No two areas overlap.
+
+ghost use Rattle.std.specs.Prelude.{false, All};
+ghost use Rattle.h3_lines.specs.Pieces.{Uncut};
+ghost use Rattle.h3_rows.specs.Areas.{names_in};
+
+use crate::files::look_ahead;
+use crate::required::cell_given;
+use h3_index::H3Error;
+use h3_lines::{LINES, TextFunction};
+use h3_regions::{ApartAreas, TabledZones};
+use h3_rows::Names;
+
+/// Answers a cell with the name of its area, or with `none` if it is in no area.
+#[derive(Drop)]
+pub(crate) struct AreaOf<'a> {
+    pub(crate) areas: ApartAreas<'a>,
+    pub(crate) tabled: TabledZones<'a>,
+    pub(crate) names: &'a Names,
+    pub(crate) none: &'a [u8],
+    ghost lines: { All (λ name. Uncut 10 names.now.quotes false name false)
+        (names_in names.now.bytes.items names.now.spans.items) },
+    ghost line: { Uncut 10 names.now.quotes false none.now false },
+}
+
+impl<'a> TextFunction for AreaOf<'a> {
+    ghost use Rattle.h3_command.specs.Areas.{name_answer};
+
+    ghost answer_of = { λ f. name_answer f.none.now
+        (names_in f.names.now.bytes.items f.names.now.spans.items) f.areas };
+
+    ghost counts_quotes = { λ f. f.names.now.quotes };
+
+    #[inline(always)]
+    fn text(&self, index: Option<u64>, place: &mut usize) -> Result<&[u8], H3Error> {
+        let cell = cell_given(index)?;
+        match self.areas.area_near(cell, place) {
+            Some(number) => Ok(self.names.get(number as usize).unwrap_or(b"")),
+            None => Ok(self.none),
+        }
+    }
+
+    #[inline(always)]
+    fn looks_ahead(&self) -> bool {
+        true
+    }
+
+    #[inline(always)]
+    fn look_ahead(&self, indexes: &[u64], place: usize) -> Option<[usize; LINES]> {
+        look_ahead(&self.tabled, indexes, place)
+    }
+}
