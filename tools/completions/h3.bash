@@ -22,8 +22,8 @@ _h3_rows() {
         compactCells | uncompactCells | uncompactCellsSize | uniteCells) echo --field --column --header --separator --csv --ragged ;;
         intersectCells | subtractCells) echo --region-column --region-field --field --column --header --separator --csv --ragged ;;
         areCoveredCells) echo --region-column --region-field --field --column --header --separator --csv --as --keep-going --errors --ragged ;;
-        cellsToZones) echo --zone-column --zone-field --field --column --header --separator --csv --as --keep-going --errors --ragged ;;
-        countCellsInZones) echo --zone-column --zone-field --field --column --header --separator --csv --ragged ;;
+        cellsToZones) echo --zone-column --zone-field --zone-name --zone-name-field --none --field --column --header --separator --csv --as --keep-going --errors --ragged ;;
+        countCellsInZones) echo --zone-column --zone-field --zone-name --zone-name-field --none --field --column --header --separator --csv --ragged ;;
         areValidCells | areValidDirectedEdges | getResolutions | getBaseCellNumbers | arePentagons | areResClassIII | cellsToParents | cellsToCenterChildren | cellsToLastChildren | cellsToChildren | cellsToChildrenSizes | cellsToChildPositions | gridDisksUnsafe | gridDisksDistancesUnsafe | gridRingsUnsafe | getDirectedEdgeOrigins | getDirectedEdgeDestinations | originsToDirectedEdges) echo --field --column --header --separator --csv --as --keep-going --errors --ragged ;;
     esac
 }
@@ -58,6 +58,7 @@ _h3() {
             return
             ;;
         -c | --cell | -k | --to | --position | --edge | --field | --column | --separator | --as) return ;;
+        --region-* | --zone-* | --none) return ;;
     esac
     options=$(_h3_options "$command")
     # (a command that requires no options awaits nothing)

@@ -1,6 +1,6 @@
 -- From a parse that succeeds to what the words ask for.
 use Rattle.std.proofs.Common.{◌≡◌, ◌∙◌, Bool, cond, true, false, refl, sym, ap, ap₂, subst, List, [], ◌∷◌, ◌||◌, drop, is_some, Option, Some, None, inl, inr}
-use Rattle.std.specs.Prelude.{find, IfErr, option_map, option_and_then, Result, Ok, Err, slice_get}
+use Rattle.std.specs.Prelude.{find, IfErr, MatchBool, option_map, option_and_then, Result, Ok, Err, slice_get, unwrap_or}
 use Rattle.std.specs.List.{list_any}
 use Rattle.std.specs.Result.{IsErrAnd}
 use Rattle.std.specs.Str.{bytes_eq}
@@ -31,8 +31,9 @@ use Rattle.h3_requests.specs.declared.command.Command.{Command}
 use Rattle.h3_words.proofs.Lexed as lexed
 use Rattle.h3_words.proofs.Lexed.{given_same}
 use Rattle.h3_words.proofs.Leaf.{Passes, Reads, leaf_reads, row_of_option}
-use Rattle.h3_words.specs.Rows.{HasFileRows, HasRows, HasTables, IsFieldBy, IsFileField, Texts, default_separator, found_texts, named_separator, rows_agree, separator_of}
-use Rattle.h3_words.specs.declared.options.CommandOption.TheVariants.{Field, Column, Header, Separator, Csv, As, KeepGoing, Errors, Ragged, RegionColumn, RegionField, ZoneColumn, ZoneField, Table, Region, Zones}
+use Rattle.h3_words.specs.Rows.{AreFileOptions, HasAreas, HasFileOfCells, HasFileRows, HasRows, HasTables, IsFieldBy, IsFileField, Texts, default_separator, found_texts, has_names, named_separator, rows_agree, separator_of}
+use Rattle.h3_words.specs.declared.options.CommandOption.TheVariants.{Field, Column, Header, Separator, Csv, As, KeepGoing, Errors, Ragged, RegionColumn, RegionField, ZoneColumn, ZoneField, ZoneName, ZoneNameField, NoZone, Table, Region, Zones}
+use Rattle.h3_requests.specs.declared.rows.AreaOptions.{AreaOptions}
 use Rattle.h3_requests.specs.declared.rows.CellField.{CellField}
 use Rattle.h3_requests.specs.declared.rows.CellField.TheVariants as field
 use Rattle.h3_requests.specs.declared.rows.RowOptions.{RowOptions}
@@ -179,7 +180,7 @@ abbrev pub Alike : Texts → Texts → Type 0
 Alike f g = (o : CommandOption) → f o ≡ g o
 
 pub agree_alike : (f g : Texts) → Alike f g → rows_agree f ≡ rows_agree g
-agree_alike f g e = rw (e Field, e Column, e Header, e Separator, e Csv, e As, e KeepGoing, e Errors, e Ragged, e RegionColumn, e RegionField, e ZoneColumn, e ZoneField) refl
+agree_alike f g e = rw (e Field, e Column, e Header, e Separator, e Csv, e As, e KeepGoing, e Errors, e Ragged, e RegionColumn, e RegionField, e ZoneColumn, e ZoneField, e ZoneName, e ZoneNameField, e NoZone) refl
 
 field_alike : (f g : Texts) (by_number by_name : CommandOption) → Alike f g → (c : CellField) → IsFieldBy f by_number by_name c → IsFieldBy g by_number by_name c
 field_alike f g by_number by_name e (field.Number n) is = (is.0, sym (e by_number) ∙ is.1, is.2, is.3)
@@ -201,12 +202,8 @@ rows_alike f g e (Some rows) has = record {
   is_ragged = has.is_ragged ∙ ap is_some (e Ragged);
 }
 
-pub file_rows_alike : (f g : Texts) → Alike f g → (rows : Option RowOptions) → HasFileRows f rows → HasFileRows g rows
-file_rows_alike f g e None has = (
-  (sym (e RegionField) ∙ has.0.0, sym (e RegionColumn) ∙ has.0.1),
-  (sym (e ZoneField) ∙ has.1.0, sym (e ZoneColumn) ∙ has.1.1),
-)
-file_rows_alike f g e (Some rows) has = record {
+file_options_alike : (f g : Texts) → Alike f g → (rows : RowOptions) → AreFileOptions f rows → AreFileOptions g rows
+file_options_alike f g e rows has = record {
   field = elim has.field as (λ _. IsFileField g rows.field) [
     | inl is ↦ inl (field_alike f g RegionField RegionColumn e rows.field is)
     | inr is ↦ inr (field_alike f g ZoneField ZoneColumn e rows.field is)
@@ -220,22 +217,46 @@ file_rows_alike f g e (Some rows) has = record {
   is_ragged = has.is_ragged;
 }
 
+pub file_rows_alike : (f g : Texts) → Alike f g → (rows : Option RowOptions) → HasFileRows f rows → HasFileRows g rows
+file_rows_alike f g e None has = (
+  (sym (e RegionField) ∙ has.0.0, sym (e RegionColumn) ∙ has.0.1),
+  (sym (e ZoneField) ∙ has.1.0, sym (e ZoneColumn) ∙ has.1.1),
+)
+file_rows_alike f g e (Some rows) has = file_options_alike f g e rows has
+
+file_of_cells_alike : (f g : Texts) → Alike f g → (rows : Option RowOptions) → HasFileOfCells f rows → HasFileOfCells g rows
+file_of_cells_alike f g e rows has =
+    go (has_names f) has (ap₂ (λ a b. is_some a || is_some b) (e ZoneNameField) (e ZoneName))
+  where
+    go : (b : Bool) → MatchBool b (rows ≡ None) (HasFileRows f rows) → b ≡ has_names g → HasFileOfCells g rows
+    go true is same = subst (λ b. MatchBool b (rows ≡ None) (HasFileRows g rows)) same is
+    go false is same = subst (λ b. MatchBool b (rows ≡ None) (HasFileRows g rows)) same (file_rows_alike f g e rows is)
+
+areas_alike : (f g : Texts) → Alike f g → (areas : Option AreaOptions) → HasAreas f areas → HasAreas g areas
+areas_alike f g e None has = (sym (e ZoneNameField) ∙ has.0, sym (e ZoneName) ∙ has.1)
+areas_alike f g e (Some areas) has = record {
+  rows = file_options_alike f g e areas.table.rows has.rows;
+  name = field_alike f g ZoneNameField ZoneName e areas.table.name has.name;
+  none = has.none ∙ ap (λ t. unwrap_or t []) (e NoZone);
+}
+
 -- the options of rows agree in what a parse found as they do in what the words give
 pub agree_found : (k : Command) (text : CommandOption → Option Text) (found : Found) → AreFound k text found → rows_agree (found_texts found) ≡ rows_agree text
 agree_found k text found are = agree_alike (found_texts found) text (λ o. (are o).same)
 
 -- options of rows that are what a parse found are what each text says that it found
 pub rows_are : (k : Command) (found : Found) (tables : Tables) → rows_agree (found_texts found) ≡ true
-    → (rows_agree (found_texts found) ≡ true → IsAccepted Field (found_texts found Field)
-    → IsAccepted RegionField (found_texts found RegionField) → IsAccepted ZoneField (found_texts found ZoneField)
-    → HasTables (found_texts found) tables)
+    → (rows_agree (found_texts found) ≡ true → ((o : CommandOption) → IsAccepted o (found_texts found o)) → HasTables (found_texts found) tables)
     → (text : CommandOption → Option Text) → AreFound k text found → HasTables text tables
 rows_are k found tables agree has text are =
     let alike : Alike (found_texts found) text = λ o. (are o).same in
     let accepted : (o : CommandOption) → IsAccepted o (found_texts found o) =
     λ o. subst (IsAccepted o) (sym (are o).same) (are o).accepted in
-    let both = has agree (accepted Field) (accepted RegionField) (accepted ZoneField) in
-    (rows_alike (found_texts found) text alike tables.list both.0, file_rows_alike (found_texts found) text alike tables.file both.1)
+    let all = has agree accepted in (
+      rows_alike (found_texts found) text alike tables.list all.0,
+      file_of_cells_alike (found_texts found) text alike tables.file all.1,
+      areas_alike (found_texts found) text alike tables.areas all.2,
+    )
 
 -- what is reported of the parse is a refusal of the words
 pub refused : (ws : List Text) (f : ArgsError) → IsFaultOf (fault_of app ws) f → IsRefusalOf ws f

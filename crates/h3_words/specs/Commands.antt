@@ -100,6 +100,11 @@ region_options = option.Region ∷ option.RegionColumn ∷ option.RegionField �
 abbrev pub zone_options : List CommandOption
 zone_options = option.Zones ∷ option.ZoneColumn ∷ option.ZoneField ∷ []
 
+-- the options of a command that may answer by the names of zones: which field of their table has these, and what is the
+-- answer to a cell in no zone
+abbrev pub name_options : List CommandOption
+name_options = option.ZoneName ∷ option.ZoneNameField ∷ option.NoZone ∷ []
+
 -- call_of command: the word of a `Command`, the values that it has for its options, and its other options
 abbrev pub call_of : Command → Call
 call_of (command.IsValidCell cell) = record { word = codes "isValidCell"; values = Index option.Cell cell ∷ []; others = [] }
@@ -124,8 +129,8 @@ call_of command.UniteCells = record { word = codes "uniteCells"; values = []; ot
 call_of command.IntersectCells = record { word = codes "intersectCells"; values = []; others = region_options ++ list_options }
 call_of command.SubtractCells = record { word = codes "subtractCells"; values = []; others = region_options ++ list_options }
 call_of command.AreCoveredCells = record { word = codes "areCoveredCells"; values = []; others = region_options ++ line_options }
-call_of command.CellsToZones = record { word = codes "cellsToZones"; values = []; others = zone_options ++ line_options }
-call_of command.CountCellsInZones = record { word = codes "countCellsInZones"; values = []; others = zone_options ++ list_options }
+call_of command.CellsToZones = record { word = codes "cellsToZones"; values = []; others = zone_options ++ name_options ++ line_options }
+call_of command.CountCellsInZones = record { word = codes "countCellsInZones"; values = []; others = zone_options ++ name_options ++ list_options }
 call_of (command.GridDiskUnsafe cell k) = record { word = codes "gridDiskUnsafe"; values = Index option.Cell cell ∷ Number option.Radius k ∷ []; others = option.Table ∷ [] }
 call_of (command.GridDiskDistancesUnsafe cell k) = record { word = codes "gridDiskDistancesUnsafe"; values = Index option.Cell cell ∷ Number option.Radius k ∷ []; others = option.Table ∷ [] }
 call_of (command.GridRingUnsafe cell k) = record { word = codes "gridRingUnsafe"; values = Index option.Cell cell ∷ Number option.Radius k ∷ []; others = option.Table ∷ [] }

@@ -68,6 +68,9 @@ option_entry option.RegionColumn = of_rows (codes "region-column") (codes "regio
 option_entry option.RegionField = number_of_field (codes "region-field") (codes "region-field")
 option_entry option.ZoneColumn = of_rows (codes "zone-column") (codes "zone-column")
 option_entry option.ZoneField = number_of_field (codes "zone-field") (codes "zone-field")
+option_entry option.ZoneName = of_rows (codes "zone-name") (codes "zone-name")
+option_entry option.ZoneNameField = number_of_field (codes "name-field") (codes "zone-name-field")
+option_entry option.NoZone = of_rows (codes "text") (codes "none")
 
 -- the option's id in `clap`
 abbrev pub id_of : CommandOption → Text

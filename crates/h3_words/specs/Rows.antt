@@ -1,20 +1,20 @@
 -- What the options of rows ask for: how the rows of a list are read, and written with the answers to their cells, and how
--- those of a file of cells are read.
-use Rattle.std.specs.Prelude.{◌≡◌, ◌==◌, ◌&&◌, ◌||◌, ◌⊎◌, ℕ, Bool, true, false, not, [], ◌∷◌, Option, Some, None, is_some, option_map, pos, string_bytes, if◌then◌else◌}
-use Rattle.std.specs.List.{list_any}
+-- those of a file of cells are read, with names or without.
+use Rattle.std.specs.Prelude.{◌≡◌, ◌==◌, ◌&&◌, ◌||◌, ◌⊎◌, ℕ, Bool, true, false, not, [], ◌∷◌, MatchBool, Option, Some, None, is_some, option_map, pos, string_bytes, unwrap_or, if◌then◌else◌}
 use Rattle.std.specs.Option.{option_map_or}
 use Rattle.std.specs.Str.{bytes_eq}
 use Rattle.std.specs.Str.Parse.{signed_digits_value}
 use Rattle.clap.specs.Words.{Text, first_value}
 use Rattle.clap.specs.declared.parser.matches.Found.{Found}
-use Rattle.h3_requests.specs.Rows.{is_separator}
+use Rattle.h3_requests.specs.Rows.{is_plain_field, is_separator}
+use Rattle.h3_requests.specs.declared.rows.AreaOptions.{AreaOptions}
 use Rattle.h3_requests.specs.declared.rows.CellField.{CellField}
 use Rattle.h3_requests.specs.declared.rows.CellField.TheVariants as field
 use Rattle.h3_requests.specs.declared.rows.RowOptions.{RowOptions}
 use Rattle.h3_requests.specs.declared.rows.Tables.{Tables}
 use Rattle.h3_words.specs.Options.{IsInRange, id_of}
 use Rattle.h3_words.specs.declared.options.CommandOption.{CommandOption}
-use Rattle.h3_words.specs.declared.options.CommandOption.TheVariants.{Field, Column, Header, Separator, Csv, As, KeepGoing, Errors, Ragged, RegionColumn, RegionField, ZoneColumn, ZoneField}
+use Rattle.h3_words.specs.declared.options.CommandOption.TheVariants.{Field, Column, Header, Separator, Csv, As, KeepGoing, Errors, Ragged, RegionColumn, RegionField, ZoneColumn, ZoneField, ZoneName, ZoneNameField, NoZone}
 
 -- Texts: the text that each option is given, if it is given
 abbrev pub Texts : Type 0
@@ -46,14 +46,6 @@ default_separator csv = if csv then 44 else 9
 abbrev pub separator_of : Texts → Option ℕ
 separator_of text = option_map_or named_separator (text Separator) (Some (default_separator (has text Csv)))
 
--- is_in_no_name separator byte: the byte is the separator, a quote (34), a line feed (10) or a carriage return (13)
-abbrev pub is_in_no_name : ℕ → ℕ → Bool
-is_in_no_name separator b = (b == separator) || ((b == 34) || ((b == 10) || (b == 13)))
-
--- is_column_name separator name: the name of a column has no separator, quote, line feed and carriage return
-abbrev pub is_column_name : ℕ → Text → Bool
-is_column_name separator name = not (list_any (λ b. is_in_no_name separator b) name)
-
 -- needs first second: where the first is given, the second is
 abbrev pub needs : Bool → Bool → Bool
 needs first second = not first || second
@@ -66,11 +58,17 @@ list_has_rows text = has text Field || has text Column
 abbrev pub file_has_rows : Texts → Bool
 file_has_rows text = (has text RegionField || has text RegionColumn) || (has text ZoneField || has text ZoneColumn)
 
+-- has_names text: the zones of the file have names: `--zone-name` or `--zone-name-field` is given
+abbrev pub has_names : Texts → Bool
+has_names text = has text ZoneNameField || has text ZoneName
+
 -- names_fields_once text: of a field the number is given or the name, not both
 abbrev pub names_fields_once : Texts → Bool
 names_fields_once text =
     not (has text Field && has text Column)
-    && (not (has text RegionField && has text RegionColumn) && not (has text ZoneField && has text ZoneColumn))
+    && (not (has text RegionField && has text RegionColumn)
+    && (not (has text ZoneField && has text ZoneColumn)
+    && not (has text ZoneNameField && has text ZoneName)))
 
 -- cuts_rows text: `--separator` and `--csv`, which say how rows are cut, go with a list or a file that has rows
 abbrev pub cuts_rows : Texts → Bool
@@ -85,17 +83,35 @@ has_company text =
     && (needs (has text As || has text Ragged) (has text Column || has text Header)
     && needs (has text Errors) (has text KeepGoing)))
 
+-- names_have_company text: each option of the names of zones has what it goes with: `--zone-name` the option
+-- `--zone-column`, `--zone-name-field` the option `--zone-field`, and `--none` names
+abbrev pub names_have_company : Texts → Bool
+names_have_company text =
+    needs (has text ZoneName) (has text ZoneColumn)
+    && (needs (has text ZoneNameField) (has text ZoneField) && needs (has text NoZone) (has_names text))
+
 -- cuts_errors text separator: there is a column of the names of errors, which have an underscore (95), and it separates fields
 abbrev pub cuts_errors : Texts → ℕ → Bool
 cuts_errors text separator = has text Errors && separator == 95
 
--- names_fit text: `--separator` names a separator, which does not cut the names of errors, and `--as` the name of a column
+-- is_one_field text option separator: the text of the option, if it is given, is one field beside this separator: it has no
+-- separator, quote, line feed and carriage return
+abbrev pub is_one_field : Texts → CommandOption → ℕ → Bool
+is_one_field text o separator = option_map_or (is_plain_field separator) (text o) true
+
+-- fits text separator: beside this separator each of these is one field: the names of errors, the name of the new column and
+-- the text of `--none`
+abbrev pub fits : Texts → ℕ → Bool
+fits text separator = not (cuts_errors text separator) && (is_one_field text As separator && is_one_field text NoZone separator)
+
+-- names_fit text: `--separator` names a separator, and `fits` holds of it
 abbrev pub names_fit : Texts → Bool
-names_fit text = option_map_or (λ c. not (cuts_errors text c) && option_map_or (is_column_name c) (text As) true) (separator_of text) false
+names_fit text = option_map_or (λ c. fits text c) (separator_of text) false
 
 -- rows_agree text: no field is named twice, each option of rows has what it goes with, and names what it may
 abbrev pub rows_agree : Texts → Bool
-rows_agree text = names_fields_once text && (cuts_rows text && (has_company text && names_fit text))
+rows_agree text =
+    names_fields_once text && (cuts_rows text && (has_company text && (names_have_company text && names_fit text)))
 
 -- IsFieldBy text by_number by_name field: the field is that of the option of its number, from 1 to 65535, or that of the
 -- option of its name
@@ -163,9 +179,28 @@ HasFileRows text None =
     ((text RegionField ≡ None) × (text RegionColumn ≡ None)) × ((text ZoneField ≡ None) × (text ZoneColumn ≡ None))
 HasFileRows text (Some rows) = AreFileOptions text rows
 
--- HasTables text tables: the list and the file have rows exactly as their texts say
+-- HasFileOfCells text rows: without names, the rows of a file are read exactly as their texts say; with names, there is no
+-- file of cells alone
+abbrev pub HasFileOfCells : Texts → Option RowOptions → Type 0
+HasFileOfCells text rows = MatchBool (has_names text) (rows ≡ None) (HasFileRows text rows)
+
+-- AreAreaOptions text areas: a table of zones with names is read as the texts say: its rows as those of any file, and its
+-- names in the field of `--zone-name-field`, a number from 1 to 65535, or in that of `--zone-name`; the answer to a cell in
+-- no zone is the text of `--none`, or nothing
+pub record AreAreaOptions (text : Texts) (areas : AreaOptions) : Type 0 where
+  pub rows : AreFileOptions text areas.table.rows
+  pub name : IsFieldBy text ZoneNameField ZoneName areas.table.name
+  pub none : string_bytes areas.none ≡ unwrap_or (text NoZone) []
+
+-- HasAreas text areas: a table of zones with names is read exactly as its texts say, and there is none where neither the
+-- number nor the name of the field of names is given
+abbrev pub HasAreas : Texts → Option AreaOptions → Type 0
+HasAreas text None = (text ZoneNameField ≡ None) × (text ZoneName ≡ None)
+HasAreas text (Some areas) = AreAreaOptions text areas
+
+-- HasTables text tables: the list, the file of cells and the table of zones with names have rows exactly as their texts say
 abbrev pub HasTables : Texts → Tables → Type 0
-HasTables text tables = HasRows text tables.list × HasFileRows text tables.file
+HasTables text tables = HasRows text tables.list × HasFileOfCells text tables.file × HasAreas text tables.areas
 
 -- the texts that a parse found. Private contracts and proofs alone cite it.
 abbrev pub found_texts : Found → Texts

@@ -80,10 +80,19 @@ pub enum CommandOption {
 
     /// `--zone-field`: the same; the number of that field, counted from 1.
     ZoneField,
+
+    /// `--zone-name`: the column with the names of the zones, by its name in the header.
+    ZoneName,
+
+    /// `--zone-name-field`: the same; the number of that field, counted from 1.
+    ZoneNameField,
+
+    /// `--none`: what is written for a cell in no zone, if the zones have names.
+    NoZone,
 }
 
 /// A file that a command names by an option: its kind, and its path as it is given.
-#[derive(Debug, Drop)]
+#[derive(Drop)]
 pub enum CommandFile {
     /// `--table`: a base cell table.
     Table(String),
@@ -257,6 +266,15 @@ macro_rules! options {
             ZoneField
                 [number_of_field!("zone-field", "zone-field", "File of rows: number of its cell field")]
                 ("N", "the number of the field with the zones", "number:");
+            ZoneName
+                [of_rows!("zone-name", "zone-name", false, "With --zone-column: the column of names")]
+                ("NAME", "the name of the column with the names of the zones", "name:");
+            ZoneNameField
+                [number_of_field!("name-field", "zone-name-field", "With --zone-field: the field of names")]
+                ("N", "the number of the field with the names of the zones", "number:");
+            NoZone
+                [of_rows!("text", "none", false, "With names: text for a cell in no zone")]
+                ("TEXT", "the text for a cell in no zone", "text:");
         }
     };
 }

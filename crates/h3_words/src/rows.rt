@@ -1,17 +1,17 @@
 //! The options of rows: what a parse found for them.
 
-ghost use Rattle.std.specs.Prelude.{◌≡◌, IfOk, IfSome, Some, option_map, pos, string_bytes, true};
-ghost use Rattle.std.specs.List.{list_any};
+ghost use Rattle.std.specs.Prelude.{◌≡◌, ◌==◌, ◌||◌, [], IfOk, IfSome, Some, option_map, pos, string_bytes, true, unwrap_or};
 ghost use Rattle.clap.specs.Words.{found_of};
-ghost use Rattle.h3_requests.specs.Rows.{is_counted, is_separator};
+ghost use Rattle.h3_requests.specs.Rows.{is_counted, is_plain_field, is_separator};
 ghost use Rattle.h3_words.specs.Options.{number_from, number_up_to};
-ghost use Rattle.h3_words.specs.Rows.{HasFieldBy, HasFileField, HasFileRows, HasRows, HasTables, cuts_errors, cuts_rows, file_has_rows, found_texts, has_company, is_column_name, is_in_no_name, list_has_rows, named_separator, names_fields_once, names_fit, rows_agree, separator_of};
+ghost use Rattle.h3_words.specs.Rows.{HasAreas, HasFieldBy, HasFileField, HasFileOfCells, HasFileRows, HasRows, HasTables, cuts_errors, cuts_rows, file_has_rows, fits, found_texts, has_company, has_names, is_one_field, list_has_rows, named_separator, names_fields_once, names_fit, names_have_company, rows_agree, separator_of};
 ghost use Rattle.h3_words.specs.Values.{IsAccepted};
-ghost use Rattle.h3_words.specs.declared.options.CommandOption.TheVariants.{As, Field, RegionField, ZoneField};
+ghost use Rattle.h3_words.specs.declared.options.CommandOption.TheVariants.{As, Field, NoZone, RegionField, ZoneField, ZoneNameField};
+ghost use Rattle.h3_words.specs.declared.options.CommandOption.{CommandOption};
 
 use crate::options::CommandOption::{self, *};
 use clap::ArgMatches;
-use h3_requests::{CellField, RowOptions, Tables, is_separator};
+use h3_requests::{AreaOptions, CellField, RowOptions, TableOptions, Tables, is_separator};
 use std::alloc::{AllocError, Global};
 
 /// The options that go with any rows, of the list or of the file, as a usage shows them.
@@ -22,7 +22,7 @@ static OF_ROWS: [(CommandOption, &str); 2] = [
 
 /// The options of the number and of the name of a field, of which one may be given, as a usage shows
 /// them.
-static OF_A_FIELD: [(CommandOption, CommandOption, &str, &str); 3] = [
+static OF_A_FIELD: [(CommandOption, CommandOption, &str, &str); 4] = [
     (Field, Column, "--field <number>", "--column <column>"),
     (
         RegionField,
@@ -35,6 +35,12 @@ static OF_A_FIELD: [(CommandOption, CommandOption, &str, &str); 3] = [
         ZoneColumn,
         "--zone-field <zone-field>",
         "--zone-column <zone-column>",
+    ),
+    (
+        ZoneNameField,
+        ZoneName,
+        "--zone-name-field <name-field>",
+        "--zone-name <zone-name>",
     ),
 ];
 
@@ -54,12 +60,18 @@ const FIELDS_WITH_ZONES: &str =
     "'--field <number>', '--column <column>', '--zone-field <zone-field>' or \
     '--zone-column <zone-column>'";
 
+/// The options by which zones have names, as a usage shows them.
+const NAMES: &str = "'--zone-name <zone-name>' or '--zone-name-field <name-field>'";
+
 /// Why a text is no separator.
 const NO_SEPARATOR: &str =
     "a separator is \\t or one ASCII character, and no letter, digit, hyphen, double quote or line end";
 
 /// Why a text is not the name of a column.
 const NO_NAME: &str = "a name has no separator, double quote or line end";
+
+/// Why a text is not the answer to a cell in no zone.
+const NO_TEXT: &str = "the text of a cell in no zone has no separator, double quote or line end";
 
 /// Why a separator does not go with `--errors`.
 const NO_ERRORS: &str = "the names of --errors have an underscore";
@@ -87,25 +99,28 @@ fn separator(matches: &ArgMatches<'_>) -> Option<u8>
     }
 }
 
-/// Whether a byte is in the name of no column, beside this separator.
-fn is_in_no_name(byte: u8, separator: u8) -> bool
-    ensures { result ≡ is_in_no_name separator byte }
+/// Whether a byte is in no field that is written without quotes, beside this separator.
+fn is_in_no_field(byte: u8, separator: u8) -> bool
+    ensures { result ≡ ((byte == separator) || (byte == 34) || (byte == 10) || (byte == 13)) }
 {
     byte == separator || matches!(byte, b'"' | b'\n' | b'\r')
 }
 
-/// Whether a text has a byte that is in the name of no column, beside this separator.
-fn has_such_a_byte(name: &[u8], separator: u8) -> bool
-    ensures { result ≡ list_any (λ byte. is_in_no_name separator byte) name.now }
+/// Whether a text is one field, beside this separator.
+fn is_plain_field(text: &[u8], separator: u8) -> bool
+    ensures { result ≡ is_plain_field separator text.now }
 {
-    name.iter().any(|byte| is_in_no_name(*byte, separator))
+    text.iter().all(|byte| !is_in_no_field(*byte, separator))
 }
 
-/// Whether a text may be the name of a column, beside this separator.
-fn is_column_name(name: &[u8], separator: u8) -> bool
-    ensures { result ≡ is_column_name separator name.now }
+/// Whether the text of an option, if it is given, is one field beside this separator.
+fn is_one_field(option: CommandOption, matches: &ArgMatches<'_>, separator: u8) -> bool
+    ensures { result ≡ is_one_field (found_texts (found_of matches.now)) option separator }
 {
-    !has_such_a_byte(name, separator)
+    match option.text(matches) {
+        Some(text) => is_plain_field(text.as_bytes(), separator),
+        None => true,
+    }
 }
 
 /// Whether there is a column of the names of errors, and this separator cuts them.
@@ -115,19 +130,22 @@ fn cuts_errors(matches: &ArgMatches<'_>, separator: u8) -> bool
     Errors.is_given(matches) && separator == b'_'
 }
 
-/// Whether `--separator` names a separator, which does not cut the names of errors, and `--as` the
-/// name of a column.
+/// Whether a separator does not cut the names of errors, the name of the new column and the text of
+/// `--none`.
+fn fits(matches: &ArgMatches<'_>, separator: u8) -> bool
+    ensures { result ≡ fits (found_texts (found_of matches.now)) separator }
+{
+    !cuts_errors(matches, separator)
+        && is_one_field(As, matches, separator)
+        && is_one_field(NoZone, matches, separator)
+}
+
+/// Whether `--separator` names a separator, and what is written between separators is one field.
 fn names_fit(matches: &ArgMatches<'_>) -> bool
     ensures { result ≡ names_fit (found_texts (found_of matches.now)) }
 {
     match separator(matches) {
-        Some(byte) => {
-            !cuts_errors(matches, byte)
-                && match As.text(matches) {
-                    Some(name) => is_column_name(name.as_bytes(), byte),
-                    None => true,
-                }
-        }
+        Some(byte) => fits(matches, byte),
         None => false,
     }
 }
@@ -147,6 +165,13 @@ fn file_has_rows(matches: &ArgMatches<'_>) -> bool
     region || ZoneField.is_given(matches) || ZoneColumn.is_given(matches)
 }
 
+/// Whether the zones of the file have names.
+fn has_names(matches: &ArgMatches<'_>) -> bool
+    ensures { result ≡ has_names (found_texts (found_of matches.now)) }
+{
+    ZoneNameField.is_given(matches) || ZoneName.is_given(matches)
+}
+
 /// Whether no field is named by its number and by its name.
 fn names_fields_once(matches: &ArgMatches<'_>) -> bool
     ensures { result ≡ names_fields_once (found_texts (found_of matches.now)) }
@@ -154,7 +179,8 @@ fn names_fields_once(matches: &ArgMatches<'_>) -> bool
     let list = Field.is_given(matches) && Column.is_given(matches);
     let region = RegionField.is_given(matches) && RegionColumn.is_given(matches);
     let zones = ZoneField.is_given(matches) && ZoneColumn.is_given(matches);
-    !list && !region && !zones
+    let names = ZoneNameField.is_given(matches) && ZoneName.is_given(matches);
+    !list && !region && !zones && !names
 }
 
 /// Whether what says how rows are cut goes with rows, of the list or of the file.
@@ -183,12 +209,28 @@ fn has_company(matches: &ArgMatches<'_>) -> bool
         && (!errors || keep_going)
 }
 
+/// Whether each option of the names of zones has what it goes with.
+fn names_have_company(matches: &ArgMatches<'_>) -> bool
+    ensures { result ≡ names_have_company (found_texts (found_of matches.now)) }
+{
+    let column = ZoneColumn.is_given(matches);
+    let field = ZoneField.is_given(matches);
+    let names = has_names(matches);
+    (!ZoneName.is_given(matches) || column)
+        && (!ZoneNameField.is_given(matches) || field)
+        && (!NoZone.is_given(matches) || names)
+}
+
 /// Whether no field is named twice, and each option of rows has what it goes with, and names what it
 /// may.
 pub(crate) fn rows_agree(matches: &ArgMatches<'_>) -> bool
     ensures { result ≡ rows_agree (found_texts (found_of matches.now)) }
 {
-    names_fields_once(matches) && cuts_rows(matches) && has_company(matches) && names_fit(matches)
+    names_fields_once(matches)
+        && cuts_rows(matches)
+        && has_company(matches)
+        && names_have_company(matches)
+        && names_fit(matches)
 }
 
 /// That an option lacks what it goes with.
@@ -241,6 +283,23 @@ fn fields_of_rows(matches: &ArgMatches<'_>) -> &'static str {
     }
 }
 
+/// The first option of names that is given without what it goes with, and that, as a usage shows them.
+fn first_name_alone(matches: &ArgMatches<'_>) -> Option<(&'static str, &'static str)> {
+    if ZoneName.is_given(matches) && !ZoneColumn.is_given(matches) {
+        return Some(("--zone-name <zone-name>", "'--zone-column <zone-column>'"));
+    }
+    if ZoneNameField.is_given(matches) && !ZoneField.is_given(matches) {
+        return Some((
+            "--zone-name-field <name-field>",
+            "'--zone-field <zone-field>'",
+        ));
+    }
+    if NoZone.is_given(matches) && !has_names(matches) {
+        return Some(("--none <text>", NAMES));
+    }
+    None
+}
+
 /// The first option that is given without what it goes with, and that, as a usage shows them.
 fn first_alone(matches: &ArgMatches<'_>) -> Option<(&'static str, &'static str)> {
     if Header.is_given(matches) && !Field.is_given(matches) {
@@ -264,7 +323,7 @@ fn first_alone(matches: &ArgMatches<'_>) -> Option<(&'static str, &'static str)>
     if Errors.is_given(matches) && !KeepGoing.is_given(matches) {
         return Some(("--errors", "'--keep-going'"));
     }
-    None
+    first_name_alone(matches)
 }
 
 /// What is wrong with the options of rows, where they do not agree: the first rule that is broken.
@@ -280,7 +339,8 @@ fn broken_rule(alloc: Global, matches: &ArgMatches<'_>) -> Result<String, AllocE
         Some(byte) if cuts_errors(matches, byte) => {
             (Separator, "--separator <separator>", NO_ERRORS)
         }
-        Some(_) => (As, "--as <name>", NO_NAME),
+        Some(byte) if !is_one_field(As, matches, byte) => (As, "--as <name>", NO_NAME),
+        Some(_) => (NoZone, "--none <text>", NO_TEXT),
     };
     invalid(alloc, option.text(matches), shown, reason)
 }
@@ -398,18 +458,71 @@ fn file_options(alloc: Global, matches: &ArgMatches<'_>) -> Result<Option<RowOpt
     }))
 }
 
+/// How the rows of a file without names are read, if it has rows; for options that agree.
+///
+/// [`AllocError`] if there is no memory for a name.
+fn cell_options(alloc: Global, matches: &ArgMatches<'_>) -> Result<Option<RowOptions>, AllocError>
+    ensures { IfOk result (λ rows. rows_agree (found_texts (found_of matches.now)) ≡ true
+        → IsAccepted RegionField (found_texts (found_of matches.now) RegionField)
+        → IsAccepted ZoneField (found_texts (found_of matches.now) ZoneField)
+        → HasFileOfCells (found_texts (found_of matches.now)) rows) }
+{
+    if has_names(matches) {
+        return Ok(None);
+    }
+    file_options(alloc, matches)
+}
+
+/// What is written for a cell in no zone, beside this separator: for options that agree the text of
+/// `--none`, or nothing.
+///
+/// [`AllocError`] if there is no memory for it.
+fn none_text(alloc: Global, matches: &ArgMatches<'_>, separator: u8) -> Result<String, AllocError>
+    ensures plain { IfOk result (λ text. is_plain_field separator (string_bytes text) ≡ true) }
+    ensures read { IfOk result (λ text.
+        is_one_field (found_texts (found_of matches.now)) NoZone separator ≡ true
+        → string_bytes text ≡ unwrap_or (found_texts (found_of matches.now) NoZone) []) }
+{
+    match NoZone.text(matches) {
+        Some(text) if is_plain_field(text.as_bytes(), separator) => String::from_str(alloc, text),
+        _ => Ok(String::new(alloc)),
+    }
+}
+
+/// How the table of zones with names is read, if they have names; for options that agree.
+///
+/// [`AllocError`] if there is no memory for a name.
+fn area_options(alloc: Global, matches: &ArgMatches<'_>) -> Result<Option<AreaOptions>, AllocError>
+    ensures { IfOk result (λ areas. rows_agree (found_texts (found_of matches.now)) ≡ true
+        → IsAccepted RegionField (found_texts (found_of matches.now) RegionField)
+        → IsAccepted ZoneField (found_texts (found_of matches.now) ZoneField)
+        → IsAccepted ZoneNameField (found_texts (found_of matches.now) ZoneNameField)
+        → HasAreas (found_texts (found_of matches.now)) areas) }
+{
+    let Some(name) = field_by(alloc, ZoneNameField, ZoneName, matches)? else {
+        return Ok(None);
+    };
+    let Some(rows) = file_options(alloc, matches)? else {
+        return Ok(None);
+    };
+    let none = none_text(alloc, matches, rows.separator)?;
+    Ok(Some(AreaOptions {
+        table: TableOptions { rows, name },
+        none,
+    }))
+}
+
 /// How the rows of the list and those of the file are read, if these have rows; for options that agree.
 ///
 /// [`AllocError`] if there is no memory for a name.
 pub(crate) fn tables(alloc: Global, matches: &ArgMatches<'_>) -> Result<Tables, AllocError>
     ensures { IfOk result (λ tables. rows_agree (found_texts (found_of matches.now)) ≡ true
-        → IsAccepted Field (found_texts (found_of matches.now) Field)
-        → IsAccepted RegionField (found_texts (found_of matches.now) RegionField)
-        → IsAccepted ZoneField (found_texts (found_of matches.now) ZoneField)
+        → ((option : CommandOption) → IsAccepted option (found_texts (found_of matches.now) option))
         → HasTables (found_texts (found_of matches.now)) tables) }
 {
     Ok(Tables {
         list: row_options(alloc, matches)?,
-        file: file_options(alloc, matches)?,
+        file: cell_options(alloc, matches)?,
+        areas: area_options(alloc, matches)?,
     })
 }

@@ -291,11 +291,17 @@ macro_rules! commands {
                     usage: Some("h3 areCoveredCells --region <region> < cells"),
                 };
             (CellsToZones)
-                { word: "cellsToZones", options: with_line_options!(Zones, ZoneColumn, ZoneField) }
+                {
+                    word: "cellsToZones",
+                    options: with_line_options!(Zones, ZoneColumn, ZoneField, ZoneName, ZoneNameField, NoZone)
+                }
                 [lists "cellsToZones                The zone of each cell"]
                 {
                     about: "The zone of each cell listed on standard input, or 0 if it has none",
                     notes: "The zone of a cell is the one that is the cell or its ancestor.\n\
+                        With --zone-name or --zone-name-field the answer is the zone's name, and for a\n\
+                        cell in no zone the text of --none (default: nothing). The cells of one name\n\
+                        may overlap.\n\
                         With --zone-column the file is a table with a header, with --zone-field one\n\
                         without. Its errors:\n\
                         \x20 zones: line 2: error 5: E_CELL_INVALID  its first faulty line, status 1\n\
@@ -307,16 +313,24 @@ macro_rules! commands {
                         Of a CSV file, each row with its zone at the end:\n\
                         h3 cellsToZones --zones zones --csv --column cell < trips.csv\n\
                         Of zones in a CSV file:\n\
-                        h3 cellsToZones --zones zones.csv --zone-column cell --csv < cells",
+                        h3 cellsToZones --zones zones.csv --zone-column cell --csv < cells\n\
+                        By the names of such zones:\n\
+                        h3 cellsToZones --zones z.csv --zone-column cell --zone-name name --csv < cells",
                     usage: Some("h3 cellsToZones --zones <zones> < cells"),
                 };
             (CountCellsInZones)
-                { word: "countCellsInZones", options: with_list_options!(Zones, ZoneColumn, ZoneField) }
+                {
+                    word: "countCellsInZones",
+                    options: with_list_options!(Zones, ZoneColumn, ZoneField, ZoneName, ZoneNameField, NoZone)
+                }
                 [lists "countCellsInZones           Count the cells in each zone"]
                 {
                     about: "Count the cells on standard input in each zone, and those in none",
                     notes: "Each line has a zone and its count; the last one has 0 and the count of cells\n\
                         in no zone. The zone of a cell is the one that is the cell or its ancestor.\n\
+                        With --zone-name or --zone-name-field each row has a zone's name and its count,\n\
+                        in the order of the file, under a header if the file or the list has one; the\n\
+                        last has the text of --none (default: nothing).\n\
                         With --zone-column the file is a table with a header, with --zone-field one\n\
                         without. Its errors:\n\
                         \x20 zones: line 2: error 5: E_CELL_INVALID  its first faulty line, status 1\n\
@@ -328,7 +342,9 @@ macro_rules! commands {
                         Of a CSV file, whose cells are the list:\n\
                         h3 countCellsInZones --zones zones --csv --column cell < trips.csv\n\
                         Of zones in a CSV file:\n\
-                        h3 countCellsInZones --zones zones.csv --zone-column cell --csv < cells",
+                        h3 countCellsInZones --zones zones.csv --zone-column cell --csv < cells\n\
+                        By the names of such zones:\n\
+                        h3 countCellsInZones --zones z --zone-column cell --zone-name name --csv < cells",
                     usage: Some("h3 countCellsInZones --zones <zones> < cells"),
                 };
             (GridDiskUnsafe { cell, k })

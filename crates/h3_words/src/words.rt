@@ -10,7 +10,6 @@ ghost use Rattle.h3_words.specs.Rows.{HasTables, found_texts, rows_agree};
 ghost use Rattle.h3_words.specs.Values.{AreFound, AreRead, AsksFor, HasFile, IsAccepted};
 ghost use Rattle.h3_words.specs.Version.{asks_version};
 ghost use Rattle.h3_words.specs.declared.options.CommandOption.{CommandOption};
-ghost use Rattle.h3_words.specs.declared.options.CommandOption.TheVariants.{Field, RegionField, ZoneField};
 ghost use Rattle.h3_words.specs.declared.words.ArgsError.TheVariants.{Memory, Version};
 
 use crate::commands::{command_line, file, filled, named_by};
@@ -24,7 +23,7 @@ use h3_requests::{Command, Tables};
 use std::alloc::{AllocError, Global};
 
 /// What the words of a command line parse as.
-#[derive(Debug, Drop)]
+#[derive(Drop)]
 pub struct Words {
     /// The command with its values.
     pub command: Command,
@@ -178,9 +177,7 @@ fn words_of(alloc: Global, command: Command, inner: &ArgMatches<'_>) -> Result<W
     ensures file { IfOk result (λ words. (text : CommandOption → Option Text) →
         AreFound command text (found_of inner.now) → HasFile text command words.file) }
     ensures tables { IfOk result (λ words. rows_agree (found_texts (found_of inner.now)) ≡ true
-        → IsAccepted Field (found_texts (found_of inner.now) Field)
-        → IsAccepted RegionField (found_texts (found_of inner.now) RegionField)
-        → IsAccepted ZoneField (found_texts (found_of inner.now) ZoneField)
+        → ((option : CommandOption) → IsAccepted option (found_texts (found_of inner.now) option))
         → HasTables (found_texts (found_of inner.now)) words.tables) }
 {
     Ok(Words {

@@ -230,7 +230,7 @@ fn help_groups_the_commands(rt: HostRuntime) {
 }
 
 /// Lines that ask for help of a command over a region or zones, and what it says of the file.
-static FILE_HELP: [(&str, &str); 15] = [
+static FILE_HELP: [(&str, &str); 22] = [
     (
         "h3 intersectCells --help",
         "\n  region: line 2: error 5: E_CELL_INVALID  its first faulty line, status 1\n",
@@ -281,6 +281,34 @@ static FILE_HELP: [(&str, &str); 15] = [
     (
         "h3 countCellsInZones --help",
         "\nWith --zone-column the file is a table with a header, with --zone-field one\nwithout.",
+    ),
+    ("h3 cellsToZones --help", " --zone-name <zone-name> "),
+    ("h3 cellsToZones --help", " --none <text> "),
+    (
+        "h3 cellsToZones --help",
+        "\nWith --zone-name or --zone-name-field the answer is the zone's name, and for a\n\
+        cell in no zone the text of --none (default: nothing). The cells of one name\n\
+        may overlap.\n",
+    ),
+    (
+        "h3 cellsToZones --help",
+        "\nBy the names of such zones:\n\
+        h3 cellsToZones --zones z.csv --zone-column cell --zone-name name --csv < cells\n",
+    ),
+    (
+        "h3 countCellsInZones --help",
+        " --zone-name-field <name-field> ",
+    ),
+    (
+        "h3 countCellsInZones --help",
+        "\nWith --zone-name or --zone-name-field each row has a zone's name and its count,\n\
+        in the order of the file, under a header if the file or the list has one; the\n\
+        last has the text of --none (default: nothing).\n",
+    ),
+    (
+        "h3 countCellsInZones --help",
+        "\nBy the names of such zones:\n\
+        h3 countCellsInZones --zones z --zone-column cell --zone-name name --csv < cells\n",
     ),
 ];
 

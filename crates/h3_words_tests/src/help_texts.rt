@@ -309,7 +309,7 @@ fn help_says_what_each_command_answers(rt: HostRuntime) {
 }
 
 /// Commands, the forms of their options, and what each is.
-static OPTION_TEXTS: [(&str, &str, &str); 26] = [
+static OPTION_TEXTS: [(&str, &str, &str); 29] = [
     (
         "h3 getResolution -h",
         "-c, --cell <cell>",
@@ -389,6 +389,21 @@ static OPTION_TEXTS: [(&str, &str, &str); 26] = [
         "h3 countCellsInZones -h",
         "--zone-field <zone-field>",
         "File of rows: number of its cell field",
+    ),
+    (
+        "h3 cellsToZones -h",
+        "--zone-name <zone-name>",
+        "With --zone-column: the column of names",
+    ),
+    (
+        "h3 cellsToZones -h",
+        "--zone-name-field <name-field>",
+        "With --zone-field: the field of names",
+    ),
+    (
+        "h3 cellsToZones -h",
+        "--none <text>",
+        "With names: text for a cell in no zone",
     ),
     (
         "h3 gridDiskUnsafe -h",

@@ -3,7 +3,7 @@
 use crate::expected::{expect, expect_all};
 use crate::refused_words::{first_unsaid, first_valid};
 use h3_parses::{read, read_apart};
-use h3_requests::{CellField, RowOptions};
+use h3_requests::{AreaOptions, CellField, RowOptions};
 use h3_words::ArgsError;
 use std::alloc::Global;
 
@@ -345,10 +345,10 @@ fn reads_rows_of_lists(rt: HostRuntime) {
 /// Whether a line asks for a command over a file with rows, read by these options, and over a bare list.
 fn asks_for_a_file_table(alloc: Global, line: &str, expected: &Expected) -> bool {
     match read(alloc, line) {
-        Ok(words) => match (&words.tables.file, &words.tables.list) {
-            (Some(rows), None) => are_those(rows, expected)
-                && !rows.shows_errors
-                && !rows.is_ragged,
+        Ok(words) => match (&words.tables.file, &words.tables.list, &words.tables.areas) {
+            (Some(rows), None, None) => {
+                are_those(rows, expected) && !rows.shows_errors && !rows.is_ragged
+            }
             _ => false,
         },
         Err(_) => false,
@@ -420,6 +420,120 @@ fn reads_two_tables(rt: HostRuntime) {
     );
 }
 
+/// What a table of zones with names parses as: how its rows are read, the field of the names, and the text
+/// for a cell in no zone.
+type Named = (Expected, Field, &'static str);
+
+/// Whether a table of zones is read by these options.
+fn are_those_areas(areas: &AreaOptions, expected: &Named) -> bool {
+    are_those(&areas.table.rows, &expected.0)
+        && !areas.table.rows.shows_errors
+        && !areas.table.rows.is_ragged
+        && is_field(&areas.table.name, expected.1)
+        && areas.none.as_str() == expected.2
+}
+
+/// Whether a line asks for a command over a table of zones with names, read by these options, and over a list
+/// with rows or a bare one.
+fn asks_for_names(alloc: Global, line: &str, has_rows: bool, expected: &Named) -> bool {
+    match read(alloc, line) {
+        Ok(words) => match (&words.tables.areas, &words.tables.file) {
+            (Some(areas), None) => {
+                are_those_areas(areas, expected) && words.tables.list.is_some() == has_rows
+            }
+            _ => false,
+        },
+        Err(_) => false,
+    }
+}
+
+/// Lines over a table of zones with names, and whether the list has rows.
+static NAMED: [(&str, bool, Named); 8] = [
+    (
+        "h3 countCellsInZones --zones z --zone-column cell --zone-name zone --csv --column cell",
+        true,
+        (
+            (Field::Column("cell"), true, b',', true, None, false),
+            Field::Column("zone"),
+            "",
+        ),
+    ),
+    (
+        "h3 countCellsInZones --zones z --zone-field 2 --zone-name-field 1 --none 0",
+        false,
+        (
+            (Field::Number(2), false, b'\t', false, None, false),
+            Field::Number(1),
+            "0",
+        ),
+    ),
+    (
+        "h3 cellsToZones --zones z --zone-column cell --zone-name zone --csv --column cell",
+        true,
+        (
+            (Field::Column("cell"), true, b',', true, None, false),
+            Field::Column("zone"),
+            "",
+        ),
+    ),
+    (
+        "h3 cellsToZones --zones z --zone-column cell --zone-name zone --none -",
+        false,
+        (
+            (Field::Column("cell"), true, b'\t', false, None, false),
+            Field::Column("zone"),
+            "-",
+        ),
+    ),
+    (
+        "h3 cellsToZones --zone-name-field 1 --none=none --zone-field=2 --csv --zones z",
+        false,
+        (
+            (Field::Number(2), false, b',', true, None, false),
+            Field::Number(1),
+            "none",
+        ),
+    ),
+    (
+        "h3 cellsToZones --zones z --zone-field 1 --zone-name-field 65535 --separator ; --none=",
+        false,
+        (
+            (Field::Number(1), false, b';', false, None, false),
+            Field::Number(65535),
+            "",
+        ),
+    ),
+    (
+        "h3 cellsToZones --zones z --zone-column a --zone-name=a,b\"c --csv --field 3 --header --as d --keep-going --ragged",
+        true,
+        (
+            (Field::Column("a"), true, b',', true, None, false),
+            Field::Column("a,b\"c"),
+            "",
+        ),
+    ),
+    (
+        "h3 cellsToZones --zones z --zone-column a --zone-name= --none a,b",
+        false,
+        (
+            (Field::Column("a"), true, b'\t', false, None, false),
+            Field::Column(""),
+            "a,b",
+        ),
+    ),
+];
+
+#[test]
+fn reads_zones_with_names(rt: HostRuntime) {
+    for (line, has_rows, expected) in &NAMED {
+        expect(
+            &rt,
+            line,
+            asks_for_names(rt.alloc(), line, *has_rows, expected),
+        );
+    }
+}
+
 /// Lines of commands on a bare list, or on none.
 static BARE: [&str; 13] = [
     "h3 compactCells",
@@ -440,7 +554,11 @@ static BARE: [&str; 13] = [
 /// Whether a line asks for a command without rows.
 fn asks_for_no_rows(alloc: Global, line: &str) -> bool {
     match read(alloc, line) {
-        Ok(words) => words.tables.list.is_none() && words.tables.file.is_none(),
+        Ok(words) => {
+            words.tables.list.is_none()
+                && words.tables.file.is_none()
+                && words.tables.areas.is_none()
+        }
         Err(_) => false,
     }
 }
@@ -453,7 +571,7 @@ fn reads_no_rows(rt: HostRuntime) {
 }
 
 /// Lines with a number out of range, an option twice, or an option without what it goes with.
-static INVALID: [&str; 49] = [
+static INVALID: [&str; 67] = [
     "h3 getResolutions --field 0",
     "h3 getResolutions --field 65536",
     "h3 getResolutions --field -1",
@@ -503,6 +621,24 @@ static INVALID: [&str; 49] = [
     "h3 cellsToZones --zones z --zone-column a --ragged",
     "h3 cellsToZones --zones z --zone-column a --keep-going",
     "h3 cellsToZones --zone-column a",
+    "h3 cellsToZones --zones z --zone-name a",
+    "h3 cellsToZones --zones z --zone-name-field 1",
+    "h3 cellsToZones --zones z --zone-field 1 --zone-name a",
+    "h3 cellsToZones --zones z --zone-column a --zone-name-field 1",
+    "h3 cellsToZones --zones z --column a --zone-name b",
+    "h3 cellsToZones --zones z --field 1 --zone-name-field 2",
+    "h3 cellsToZones --zones z --zone-column a --zone-name b --zone-name c",
+    "h3 cellsToZones --zones z --zone-column a --zone-name b --zone-name-field 1",
+    "h3 cellsToZones --zones z --zone-field 1 --zone-name b --zone-name-field 1",
+    "h3 cellsToZones --zones z --zone-field 1 --zone-name-field 0",
+    "h3 cellsToZones --zones z --zone-field 1 --zone-name-field 65536",
+    "h3 cellsToZones --zones z --zone-field 1 --zone-name-field -1",
+    "h3 cellsToZones --zones z --zone-field 1 --zone-name-field x",
+    "h3 cellsToZones --zones z --zone-field 1 --zone-name-field 2 --zone-name-field 3",
+    "h3 cellsToZones --zones z --none a",
+    "h3 cellsToZones --zones z --zone-column a --none b",
+    "h3 cellsToZones --zones z --zone-field 1 --none b",
+    "h3 cellsToZones --zones z --zone-column a --zone-name b --none c --none d",
 ];
 
 #[test]
@@ -512,12 +648,21 @@ fn refuses_options_without_company(rt: HostRuntime) {
 }
 
 /// Lines with an unfit separator or name, a flag with a value, or an option of other commands.
-static UNFIT: [&str; 54] = [
+static UNFIT: [&str; 63] = [
     "h3 cellsToZones --zones z --region-column a",
     "h3 intersectCells --region r --zone-field 1",
     "h3 compactCells --zone-column a",
     "h3 cellsToZones --zones z --zone-column a --separator ab",
     "h3 cellsToZones --zones z --zone-column",
+    "h3 cellsToZones --zones z --zone-column a --zone-name",
+    "h3 cellsToZones --zones z --zone-column a --zone-name b --none",
+    "h3 cellsToZones --zones z --zone-column a --zone-name b --csv --none c,d",
+    "h3 cellsToZones --zones z --zone-column a --zone-name b --separator . --none c.d",
+    "h3 cellsToZones --zones z --zone-column a --zone-name b --none c\"",
+    "h3 cellsToZones --zones z --zone-column a --zone-name b --separator ab",
+    "h3 countCellsInZones --zones z --zone-name b",
+    "h3 areCoveredCells --region r --region-column a --zone-name b",
+    "h3 compactCells --none a",
     "h3 getResolutions --field 1 --separator a",
     "h3 getResolutions --field 1 --separator Z",
     "h3 getResolutions --field 1 --separator 0",
@@ -576,7 +721,7 @@ fn refuses_unfit_values(rt: HostRuntime) {
 }
 
 /// Invalid lines, and what is said of each.
-static SAID: [(&str, &str); 24] = [
+static SAID: [(&str, &str); 31] = [
     (
         "h3 getResolutions --field -1",
         "invalid value '-1' for '--field <number>': -1 is not in 1..=65535",
@@ -666,6 +811,36 @@ static SAID: [(&str, &str); 24] = [
         '--column <column>', '--zone-field <zone-field>' or '--zone-column <zone-column>'\n",
     ),
     (
+        "h3 cellsToZones --zones z --zone-field 1 --zone-name a",
+        "error: the argument '--zone-name <zone-name>' cannot be used without '--zone-column <zone-column>'\n\n\
+        Usage: h3 cellsToZones --zones <zones> < cells\n",
+    ),
+    (
+        "h3 cellsToZones --zones z --zone-column a --zone-name-field 1",
+        "error: the argument '--zone-name-field <name-field>' cannot be used without '--zone-field <zone-field>'\n",
+    ),
+    (
+        "h3 cellsToZones --zones z --zone-column a --zone-name-field 1 --zone-name b",
+        "error: the argument '--zone-name-field <name-field>' cannot be used with '--zone-name <zone-name>'\n",
+    ),
+    (
+        "h3 cellsToZones --zones z --zone-column a --none b",
+        "error: the argument '--none <text>' cannot be used without '--zone-name <zone-name>' or \
+        '--zone-name-field <name-field>'\n",
+    ),
+    (
+        "h3 cellsToZones --zones z --zone-column a --zone-name b --csv --none c,d",
+        "error: invalid value 'c,d' for '--none <text>': the text of a cell in no zone has no separator, double quote or line end\n",
+    ),
+    (
+        "h3 cellsToZones --zones z --zone-field 1 --zone-name-field 0",
+        "invalid value '0' for '--zone-name-field <name-field>': 0 is not in 1..=65535",
+    ),
+    (
+        "h3 countCellsInZones --zones z --zone-name b",
+        "error: the argument '--zone-name <zone-name>' cannot be used without '--zone-column <zone-column>'\n",
+    ),
+    (
         "h3 subtractCells --region r --csv",
         "error: the argument '--csv' cannot be used without '--field <number>', '--column <column>', \
         '--region-field <region-field>' or '--region-column <region-column>'\n",
@@ -682,14 +857,19 @@ fn says_which_option_is_invalid(rt: HostRuntime) {
     expect_all(&rt, row, SAID.len());
 }
 
-/// Whether `getResolutions --column a` may have an option with this value.
-fn may_have(alloc: Global, option: &str, value: &str) -> Option<bool> {
-    let words = ["h3", "getResolutions", "--column", "a", option, value];
-    match read_apart(alloc, &words) {
+/// Whether words are accepted, and not invalid.
+fn are_accepted(alloc: Global, words: &[&str]) -> Option<bool> {
+    match read_apart(alloc, words) {
         Ok(_) => Some(true),
         Err(ArgsError::Usage(_)) => Some(false),
         Err(_) => None,
     }
+}
+
+/// Whether `getResolutions --column a` may have an option with this value.
+fn may_have(alloc: Global, option: &str, value: &str) -> Option<bool> {
+    let words = ["h3", "getResolutions", "--column", "a", option, value];
+    are_accepted(alloc, &words)
 }
 
 /// Options, values with blanks and control characters, and whether the option may have the value.
@@ -717,5 +897,43 @@ fn reads_blanks_in_values(rt: HostRuntime) {
             option,
             may_have(rt.alloc(), option, value) == Some(*may),
         );
+    }
+}
+
+/// Whether zones with names, in a table without quotes, may have `--none` with this value.
+fn may_have_none(alloc: Global, value: &str) -> Option<bool> {
+    let words = [
+        "h3",
+        "cellsToZones",
+        "--zones",
+        "z",
+        "--zone-field",
+        "1",
+        "--zone-name-field",
+        "2",
+        "--none",
+        value,
+    ];
+    are_accepted(alloc, &words)
+}
+
+/// Values of `--none`, and whether it may have the value where a tab separates fields.
+static NONES: [(&str, bool); 10] = [
+    ("", true),
+    ("-", true),
+    (" ", true),
+    ("no zone", true),
+    ("a,b", true),
+    ("a\u{e9}", true),
+    ("a\tb", false),
+    ("a\nb", false),
+    ("a\r", false),
+    ("\"", false),
+];
+
+#[test]
+fn reads_texts_for_no_zone(rt: HostRuntime) {
+    for (value, may) in &NONES {
+        expect(&rt, value, may_have_none(rt.alloc(), value) == Some(*may));
     }
 }

@@ -1,4 +1,4 @@
-use Rattle.std.proofs.Common.{rules, ◌≡◌, ◌∙◌, ap, Some}
+use Rattle.std.proofs.Common.{rules, ◌∙◌, ap, Some}
 use Rattle.clap.specs.Words.{found_of}
 use Rattle.h3_words.specs.Rows.{found_texts}
 use Rattle.h3_words.proofs.Separators.{agreed_separator}
