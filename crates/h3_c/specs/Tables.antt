@@ -17,22 +17,22 @@ use Rattle.h3_c.specs.declared.tables.TableFault.{TableFault}
 
 -- ---- why a table file is refused
 
--- told_error error: a table's error in numbers: which it is, its record or base cell, and its direction
-abbrev pub told_error : TableError → TableFault
-told_error fault.Read = record { code = 1; direction = 0; at = 0 }
-told_error fault.Memory = record { code = 2; direction = 0; at = 0 }
-told_error (fault.Form row) = record { code = 3; direction = 0; at = row }
-told_error (fault.Range row) = record { code = 4; direction = 0; at = row }
-told_error (fault.Repeated row) = record { code = 5; direction = 0; at = row }
-told_error fault.Missing = record { code = 6; direction = 0; at = 0 }
-told_error (fault.Neighbours b) = record { code = 7; direction = 0; at = b }
-told_error (fault.Reversal b d) = record { code = 8; direction = digit_of d; at = b }
-told_error (fault.Corner b d) = record { code = 9; direction = digit_of d; at = b }
+-- error_code error: a table's error in numbers: which it is, its record or base cell, and its direction
+abbrev pub error_code : TableError → TableFault
+error_code fault.Read = record { code = 1; direction = 0; at = 0 }
+error_code fault.Memory = record { code = 2; direction = 0; at = 0 }
+error_code (fault.Form row) = record { code = 3; direction = 0; at = row }
+error_code (fault.Range row) = record { code = 4; direction = 0; at = row }
+error_code (fault.Repeated row) = record { code = 5; direction = 0; at = row }
+error_code fault.Missing = record { code = 6; direction = 0; at = 0 }
+error_code (fault.Neighbours b) = record { code = 7; direction = 0; at = b }
+error_code (fault.Reversal b d) = record { code = 8; direction = digit_of d; at = b }
+error_code (fault.Corner b d) = record { code = 9; direction = digit_of d; at = b }
 
--- told error: the same, or 0 where there is none
-abbrev pub told : Option TableError → TableFault
-told None = record { code = 0; direction = 0; at = 0 }
-told (Some e) = told_error e
+-- fault_code error: the same, or 0 where there is none
+abbrev pub fault_code : Option TableError → TableFault
+fault_code None = record { code = 0; direction = 0; at = 0 }
+fault_code (Some e) = error_code e
 
 -- ---- what is returned over a table
 

@@ -11,7 +11,7 @@ ghost use Rattle.h3_c.specs.Lists.{laid_over};
 ghost use Rattle.h3_c.specs.Outcome.{code_of};
 ghost use Rattle.h3_c.specs.Zones.{zones_in};
 
-use crate::column::{MEMORY_BOUNDS, NO_COUNT, Question, fill};
+use crate::column::{ColumnFunction, MEMORY_BOUNDS, NO_COUNT, fill};
 use crate::sets::{cells_in, put_slice};
 use crate::zones::{Lookup, TABLE, is_long};
 use h3_functions::cell_from;
@@ -146,7 +146,7 @@ impl<'a> PlacesOf<'a> {
     }
 }
 
-impl<'a> Question<u64> for PlacesOf<'a> {
+impl<'a> ColumnFunction<u64> for PlacesOf<'a> {
     ghost outcome = { λ q h. cell_to_place (zones_in q.zones) q.places.now h };
 
     #[inline(always)]

@@ -22,7 +22,7 @@ pub(crate) const NO_NUMBER: i32 = -1;
 pub(crate) const NO_COUNT: u64 = u64::MAX;
 
 /// What is asked of each index of a column.
-pub(crate) trait Question<T> {
+pub(crate) trait ColumnFunction<T> {
     /// The outcome for an index.
     ghost outcome: { Self → ℕ → Result T H3Error };
 
@@ -46,7 +46,7 @@ pub(crate) trait Question<T> {
 /// Errors are counted: of a `bool` that stays false the compiler would make two loops, one for before
 /// and one for after, with a branch.
 #[inline(always)]
-fn fill_values<T: Copy, Q: Question<T>>(
+fn fill_values<T: Copy, Q: ColumnFunction<T>>(
     question: &Q,
     indexes: &[u64],
     missing: T,
@@ -80,7 +80,10 @@ fn fill_values<T: Copy, Q: Question<T>>(
 
 /// The number of the first error among what is asked of each index, and its place; 0 and how many
 /// indexes there are where there is none.
-pub(crate) fn first_error<T: Copy, Q: Question<T>>(question: &Q, indexes: &[u64]) -> (u32, usize)
+pub(crate) fn first_error<T: Copy, Q: ColumnFunction<T>>(
+    question: &Q,
+    indexes: &[u64],
+) -> (u32, usize)
     ensures code { result.0 ≡ first_code (map (λ h. Q.outcome question.now h) indexes.now) }
     ensures place { result.1 ≡ first_place (map (λ h. Q.outcome question.now h) indexes.now) }
 {
@@ -98,7 +101,7 @@ pub(crate) fn first_error<T: Copy, Q: Question<T>>(question: &Q, indexes: &[u64]
 /// 0 and how many indexes there are. Where there is too little room, `MEMORY_BOUNDS`: then nothing
 /// is written.
 #[inline(always)]
-pub(crate) fn fill<T: Copy, Q: Question<T>>(
+pub(crate) fn fill<T: Copy, Q: ColumnFunction<T>>(
     question: &Q,
     indexes: &[u64],
     missing: T,
@@ -127,7 +130,7 @@ pub(crate) fn fill<T: Copy, Q: Question<T>>(
 /// [`fill`], where the question is about a resolution. A number that is none is refused before any
 /// index is asked, and where there are none: then nothing is written.
 #[inline(always)]
-pub(crate) fn fill_at<T: Copy, Q: Question<T>>(
+pub(crate) fn fill_at<T: Copy, Q: ColumnFunction<T>>(
     res: i32,
     question: &Q,
     indexes: &[u64],

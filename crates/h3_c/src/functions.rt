@@ -4,7 +4,7 @@ ghost use Rattle.std.specs.Prelude.{◌≡◌};
 ghost use Rattle.h3_functions.specs.Outcome.{outcome_of};
 ghost use Rattle.h3_c.specs.Functions.{int_in, word_in};
 
-use crate::column::Question;
+use crate::column::ColumnFunction;
 use crate::outcome::truth;
 use h3_functions::{Outcome, outcome_of};
 use h3_index::H3Error;
@@ -37,7 +37,7 @@ pub(crate) fn word(function: IndexFunction, index: u64) -> Result<u64, H3Error>
     }
 }
 
-impl Question<i32> for IndexFunction {
+impl ColumnFunction<i32> for IndexFunction {
     ghost outcome = { λ f h. int_in (outcome_of f h) };
 
     #[inline(always)]
@@ -46,7 +46,7 @@ impl Question<i32> for IndexFunction {
     }
 }
 
-impl Question<u64> for IndexFunction {
+impl ColumnFunction<u64> for IndexFunction {
     ghost outcome = { λ f h. word_in (outcome_of f h) };
 
     #[inline(always)]

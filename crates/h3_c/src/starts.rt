@@ -6,7 +6,7 @@ ghost use Rattle.h3_c.specs.Column.{first_code, first_place};
 ghost use Rattle.h3_c.specs.Lists.{indexes, laid_over};
 ghost use Rattle.h3_c.specs.Starts.{all_children, child_sizes, fitting, greatest_place, lists_code, lists_place, sizes_of, starts_code, starts_from, starts_over, starts_place};
 
-use crate::column::{MEMORY_BOUNDS, Question, first_error};
+use crate::column::{ColumnFunction, MEMORY_BOUNDS, first_error};
 use crate::descendants::put_children_of;
 use h3_requests::IndexFunction::CellToChildrenSize;
 
@@ -18,7 +18,7 @@ const GREATEST_PLACE: u64 = 9_223_372_036_854_775_807;
 /// the first list without room at `at`; or the number of the first error, and its place; or 0, and
 /// how many indexes there are.
 #[inline(always)]
-fn tell<Q: Question<u64>>(
+fn tell<Q: ColumnFunction<u64>>(
     question: &Q,
     indexes: &[u64],
     fitting: usize,
@@ -49,7 +49,11 @@ fn tell<Q: Question<u64>>(
 /// `GREATEST_PLACE`. Returns how many of them end there or before, and whether no index is refused,
 /// if these are all.
 #[inline(always)]
-fn put_starts<Q: Question<u64>>(question: &Q, indexes: &[u64], starts: &mut [u64]) -> (usize, bool)
+fn put_starts<Q: ColumnFunction<u64>>(
+    question: &Q,
+    indexes: &[u64],
+    starts: &mut [u64],
+) -> (usize, bool)
     requires room { length indexes.now < length starts.old }
     ensures fitting { result.0 ≡ fitting greatest_place
         (sizes_of (map (λ h. Q.outcome question.now h) indexes.now)) }
@@ -80,7 +84,7 @@ fn put_starts<Q: Question<u64>>(question: &Q, indexes: &[u64], starts: &mut [u64
 /// slots, up to `GREATEST_PLACE`. Given is how many items each has. Returns what [`tell`] does;
 /// where there is too little room for the places, `MEMORY_BOUNDS`: then nothing is written.
 #[inline(always)]
-pub(crate) fn fill_starts<Q: Question<u64>>(
+pub(crate) fn fill_starts<Q: ColumnFunction<u64>>(
     question: &Q,
     indexes: &[u64],
     starts: &mut [u64],

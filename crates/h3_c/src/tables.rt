@@ -7,7 +7,7 @@ ghost use Rattle.h3_table.specs.Fields.{records_of};
 ghost use Rattle.h3_table.specs.Table.{links_of, table_fault};
 ghost use Rattle.h3_directions.specs.declared.error.TableError.{TableError};
 ghost use Rattle.h3_c.specs.Outcome.{code_of, index_of, truth_of};
-ghost use Rattle.h3_c.specs.Tables.{are_neighbor_cells, cells_to_directed_edge, edge_index_of, get_directed_edge_destination, told, told_error};
+ghost use Rattle.h3_c.specs.Tables.{are_neighbor_cells, cells_to_directed_edge, edge_index_of, get_directed_edge_destination, fault_code, error_code};
 
 use crate::outcome::{index_of, put, truth};
 use h3_directions::TableError;
@@ -46,8 +46,8 @@ pub struct TableFault {
 }
 
 /// An error in numbers.
-fn told_error(error: TableError) -> TableFault
-    ensures { result ≡ told_error error }
+fn error_code(error: TableError) -> TableFault
+    ensures { result ≡ error_code error }
 {
     let (code, at, direction) = match error {
         TableError::Read => (1, 0, 0),
@@ -71,8 +71,8 @@ fn told_error(error: TableError) -> TableFault
 /// over the table returns `Failed`.
 #[unsafe(no_mangle)]
 pub extern "C" fn h3w_readTable(alloc: Global, file: &[u8], fault: &mut TableFault) -> Table
-    ensures fault { (fault.new ≡ told (Some TableError.Memory))
-        ⊎ (fault.new ≡ told (table_fault (records_of file.now))) }
+    ensures fault { (fault.new ≡ fault_code (Some TableError.Memory))
+        ⊎ (fault.new ≡ fault_code (table_fault (records_of file.now))) }
     ensures accepted { fault.new.code ≡ 0 → (result.accepted ≡ 1)
         × (link_of result.links ≡ links_of (records_of file.now)) }
     ensures refused { fault.new.code ≢ 0 → result.accepted ≡ 0 }
@@ -87,7 +87,7 @@ pub extern "C" fn h3w_readTable(alloc: Global, file: &[u8], fault: &mut TableFau
             Table { links, accepted: 1 }
         }
         Err(error) => {
-            *fault = told_error(error);
+            *fault = error_code(error);
             Table {
                 links: BaseTable::closed(),
                 accepted: 0,

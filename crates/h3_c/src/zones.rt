@@ -16,7 +16,7 @@ ghost use Rattle.h3_c.specs.Outcome.{code_of, truth_of};
 ghost use Rattle.h3_c.specs.Sets.{cells_in};
 ghost use Rattle.h3_c.specs.Zones.{AreZonesOver, FindsOverlap, cell_to_zone, counts_code, counts_over, counts_place, is_covered_cell, judged, others_over, zones_code, zones_in};
 
-use crate::column::{MEMORY_BOUNDS, NO_NUMBER, NULL, Question, fill};
+use crate::column::{ColumnFunction, MEMORY_BOUNDS, NO_NUMBER, NULL, fill};
 use crate::outcome::truth;
 use crate::sets::{cells_in, put_slice};
 use h3_functions::cell_from;
@@ -174,7 +174,7 @@ struct ZonesOf<'a> {
     zones: Lookup<'a>,
 }
 
-impl<'a> Question<u64> for ZonesOf<'a> {
+impl<'a> ColumnFunction<u64> for ZonesOf<'a> {
     ghost outcome = { λ q h. cell_to_zone (zones_in q.zones) h };
 
     #[inline(always)]
@@ -283,7 +283,7 @@ struct CoveredBy<'a> {
     zones: Lookup<'a>,
 }
 
-impl<'a> Question<i32> for CoveredBy<'a> {
+impl<'a> ColumnFunction<i32> for CoveredBy<'a> {
     ghost outcome = { λ q h. truth_of (is_covered_cell (zones_in q.zones) h) };
 
     #[inline(always)]
