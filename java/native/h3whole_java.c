@@ -746,3 +746,93 @@ METHOD(jlong, countByZones)(JNIEnv *env, jclass own, jlong address, jlongArray c
     free(memory), free(all);
     return first;
 }
+
+/* ---- Areas that may overlap: their cells are kept as zones are, and `places` has the number of the area of each */
+
+/* (numbers of Java have a sign: with the upper bit turned, the library puts them in Java's order) */
+static void turn_signs(uint32_t *numbers, size_t n) {
+    size_t i;
+    for (i = 0; i < n; i++) numbers[i] ^= 0x80000000U;
+}
+
+/* Copies the cells of areas and their numbers, which are as many. An error of the JVM is pending. */
+static H3Error copy_areas(JNIEnv *env, jlongArray cells, jintArray numbers, Zones *areas) {
+    jsize n = (jsize)areas->count;
+    size_t i;
+    areas->places = (uint32_t *)(areas->cells + n);
+    (*env)->GetLongArrayRegion(env, cells, 0, n, (jlong *)areas->cells);
+    if (!is_pending(env)) (*env)->GetIntArrayRegion(env, numbers, 0, n, (jint *)areas->places);
+    if (is_pending(env)) return E_FAILED;
+    turn_signs(areas->places, areas->count);
+    for (i = 0; i < areas->count; i++)
+        if (!h3w_isValidCell(areas->cells[i])) return E_CELL_INVALID;
+    return E_SUCCESS;
+}
+
+/* The address of the areas, or 0, with the error in status[0]. It is for freeZones. */
+METHOD(jlong, areas)(JNIEnv *env, jclass own, jlongArray cells, jintArray numbers, jlongArray status) {
+    size_t n = (size_t)(*env)->GetArrayLength(env, cells);
+    Zones *areas = malloc(sizeof *areas + (n + 1) * (sizeof *areas->cells + sizeof *areas->places));
+    H3Error error = E_MEMORY_ALLOC;
+    (void)own;
+    if (areas) areas->count = n, error = copy_areas(env, cells, numbers, areas);
+    if (!error) return (jlong)(intptr_t)areas;
+    free(areas);
+    refused(env, status, error);
+    return 0;
+}
+
+/* What the library returns for a column: the memory is to be freed, also where there is an error. */
+typedef struct {
+    List cells;
+    int64_t *starts;
+    uint32_t *numbers;
+    size_t at;
+} Found;
+
+/* There is room for two areas of each cell at first, and then for as many as there are. */
+static H3Error find_areas(const Zones *areas, Found *found) {
+    size_t n = found->cells.n, room = n < INT32_MAX / 2 ? 2 * n : INT32_MAX;
+    H3Error error = E_MEMORY_BOUNDS;
+    found->starts = places(n + 1, sizeof *found->starts);
+    if (!found->starts) return E_MEMORY_ALLOC;
+    while (error == E_MEMORY_BOUNDS) {
+        free(found->numbers);
+        found->numbers = room > INT32_MAX ? NULL : places(room, sizeof *found->numbers);
+        if (!found->numbers) return E_MEMORY_ALLOC;
+        error = h3w_cellsToAreas(areas->cells, areas->count, areas->places, areas->count, found->cells.cells, n,
+                                 found->starts, n + 1, found->numbers, room, &found->at);
+        if (error == E_MEMORY_BOUNDS) room = (size_t)found->starts[n];
+    }
+    return error;
+}
+
+/* The numbers as a new array, and the starts in one that is there. */
+static jintArray store_areas(JNIEnv *env, const Found *found, jintArray starts) {
+    size_t n = found->cells.n;
+    jsize all = (jsize)found->starts[n];
+    jintArray array;
+    store_ints(env, starts, 0, (jsize)(n + 1), found->starts);
+    array = is_pending(env) ? NULL : (*env)->NewIntArray(env, all);
+    if (!array) return NULL;
+    turn_signs(found->numbers, (size_t)all);
+    (*env)->SetIntArrayRegion(env, array, 0, all, (const jint *)found->numbers);
+    return is_pending(env) ? NULL : array;
+}
+
+/* The numbers of the areas of each cell, one cell's after another's; written is where those of each begin. The first
+ * error, times 2^32, plus its place is in status[0]; of want of memory alone there are no numbers. */
+METHOD(jintArray, cellsToAreas)
+(JNIEnv *env, jclass own, jlong address, jlongArray cells, jintArray starts, jlongArray status) {
+    Found found = {{NULL, 0}, NULL, NULL, NOWHERE};
+    jintArray array = NULL;
+    H3Error error = copy(env, cells, &found.cells);
+    jlong first;
+    (void)own;
+    if (!error) error = find_areas(zones_at(address), &found);
+    first = at_place(error, error == E_MEMORY_ALLOC ? NOWHERE : found.at);
+    if (!is_pending(env)) (*env)->SetLongArrayRegion(env, status, 0, 1, &first);
+    if (!is_pending(env) && error != E_MEMORY_ALLOC) array = store_areas(env, &found, starts);
+    free(found.numbers), free(found.starts), free(found.cells.cells);
+    return array;
+}

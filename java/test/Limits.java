@@ -1,3 +1,4 @@
+import h3whole.Areas;
 import h3whole.Columns;
 import h3whole.H3;
 import h3whole.Zones;
@@ -7,7 +8,10 @@ import java.nio.file.Path;
 import java.util.ArrayList;
 import java.util.List;
 
-/** A heap that is full (java -Xmx32m): an OutOfMemoryError, after which all works; and zones that nobody closes. */
+/**
+ * A heap that is full (java -Xmx32m): an OutOfMemoryError, after which all works; and zones and areas that nobody
+ * closes.
+ */
 final class Limits {
     private static final long CELL = 0x8029fffffffffffL;
 
@@ -54,6 +58,15 @@ final class Limits {
             }
         }
         Check.that("zones that nobody closes: KB " + (resident() - before), resident() - before < 50000);
+        for (int round = 0; round < 800; round++) {
+            if (new Areas(cells, new int[cells.length]).areasOf(cells[round]).length != 1) {
+                Check.that("an area", false);
+            }
+            if (round % 50 == 0) {
+                System.gc();
+            }
+        }
+        Check.that("areas that nobody closes: KB " + (resident() - before), resident() - before < 50000);
     }
 
     public static void main(String[] words) throws IOException {
@@ -63,13 +76,16 @@ final class Limits {
         works("after children");
         Check.thrown(OutOfMemoryError.class, () -> H3.uncompactCells(new long[] {CELL}, 9));
         works("after a list");
+        Areas areas = new Areas(new long[] {CELL}, new int[1]);
         List<Object> kept = fill();
         Check.that("a full heap", kept.size() > 0);
         for (int round = 0; round < 3; round++) {
             Check.thrown(OutOfMemoryError.class, () -> Columns.cellsToParents(new long[1 << 21], 0));
             Check.thrown(OutOfMemoryError.class, () -> H3.cellToChildrenArray(CELL, 7));
+            Check.thrown(OutOfMemoryError.class, () -> areas.areasOf(new long[1 << 21]));
         }
         kept.clear();
+        Check.same("areas after a full heap", areas.areasOf(CELL), new int[1]);
         works("after a full heap");
         Check.same("a column", Columns.getResolutions(H3.cellToChildrenArray(CELL, 6)).length, 117649);
         unclosed();

@@ -1,4 +1,7 @@
+import h3whole.AreaCounts;
+import h3whole.Areas;
 import h3whole.BaseCellTable;
+import h3whole.Columns;
 import h3whole.Counts;
 import h3whole.H3;
 import h3whole.Region;
@@ -19,9 +22,9 @@ import java.util.stream.IntStream;
 import java.util.stream.LongStream;
 
 /**
- * Counts in parts, each in a process of its own that reads serialized zones.
+ * Counts in parts, each in a process of its own that reads serialized zones and areas.
  *
- * <p>{@code Parts prepare FOLDER} writes zones; {@code Parts count FOLDER PART} counts a part of the points by them;
+ * <p>{@code Parts prepare FOLDER} writes both; {@code Parts count FOLDER PART} counts a part of the points by them;
  * {@code Parts sum FOLDER} adds up what the processes have written, and compares it with the counts of one process, and
  * of a pool of threads. Alone, it tries what is serialized and changed.
  */
@@ -53,6 +56,28 @@ final class Parts {
     private static long[] points(int part) {
         Random random = new Random(100 + part);
         return LongStream.generate(() -> Answers.cell(random, 3)).limit(POINTS).toArray();
+    }
+
+    /** Many areas, one within another: each has cells of all resolutions, and every ancestor of some at 2. */
+    private static Areas areas() {
+        Random random = new Random(4);
+        long[] cells = LongStream.generate(() -> Answers.cell(random, 3)).limit(3000).toArray();
+        long[] all = Arrays.copyOf(cells, 2 * cells.length);
+        System.arraycopy(Columns.cellsToParents(cells, 2), 0, all, cells.length, cells.length);
+        return new Areas(all, random.ints(all.length, 0, 50).toArray());
+    }
+
+    private static void sumAreas(Path folder) throws IOException, ClassNotFoundException {
+        Areas areas = areas();
+        long[] all = IntStream.range(0, PARTS).boxed().flatMapToLong(p -> LongStream.of(points(p))).toArray();
+        AreaCounts whole = areas.count(all);
+        AreaCounts sum = areas.count(new long[0]);
+        for (int part = 0; part < PARTS; part++) {
+            sum = sum.plus((AreaCounts) read(Files.readAllBytes(folder.resolve("areaCounts" + part))));
+        }
+        Check.same("of processes, in areas", sum, whole);
+        long counted = LongStream.of(whole.counts()).sum();
+        Check.that("some in areas, and some in none", counted > 1000 && whole.others() > 1000);
     }
 
     private static void sum(Path folder) throws IOException, ClassNotFoundException {
@@ -91,6 +116,8 @@ final class Parts {
         Zones zones = new Zones(new long[] {cell, 0x8009fffffffffffL});
         Region region = new Region(new long[] {cell});
         Counts counts = zones.count(new long[] {cell, parent, cell});
+        Areas areas = new Areas(new long[] {parent, cell, parent}, new int[] {0x7654321, 0x1234567, -5});
+        AreaCounts inAreas = areas.count(new long[] {cell, parent, cell, 0x8009fffffffffffL});
         BaseCellTable table = new BaseCellTable(Rows.plainTable());
         Check.same("zones", read(written(zones)), zones);
         Check.same("places", ((Zones) read(written(zones))).placesOf(new long[] {cell, parent, 0x8009fffffffffffL}),
@@ -98,6 +125,9 @@ final class Parts {
         Check.same("zones count", ((Zones) read(written(zones))).count(new long[] {cell, parent, cell}), counts);
         Check.same("a region", read(written(region)), region);
         Check.same("counts", read(written(counts)), counts);
+        Check.same("areas", read(written(areas)), areas);
+        Check.same("areas of", ((Areas) read(written(areas))).areasOf(cell), new int[] {-5, 0x7654321, 0x1234567});
+        Check.same("counts in areas", read(written(inAreas)), inAreas);
         BaseCellTable again = (BaseCellTable) read(written(table));
         Check.same("a table", again.gridDiskUnsafe(cell, 3), table.gridDiskUnsafe(cell, 3));
         List<byte[]> wrong = new ArrayList<>();
@@ -106,6 +136,12 @@ final class Parts {
         wrong.add(changed(region, cell, 5));
         wrong.add(changed(counts, cell, parent + 1));
         wrong.add(changed(counts, 2, -2));
+        wrong.add(changed(areas, cell, 5));
+        // (the numbers are the last: their length, and then the items, of which one is left out)
+        byte[] fewer = changed(areas, 3L << 32 | -5 & 0xffffffffL, 2L << 32 | -5 & 0xffffffffL);
+        wrong.add(Arrays.copyOf(fewer, fewer.length - 4));
+        wrong.add(changed(inAreas, 2, -2));
+        wrong.add(changed(inAreas, 3L << 32 | -5 & 0xffffffffL, 3L << 32 | 0x1234567));
         for (byte[] bytes : wrong) {
             Check.thrown(InvalidObjectException.class, () -> read(bytes));
         }
@@ -122,12 +158,16 @@ final class Parts {
         Path folder = Path.of(words[1]);
         if (words[0].equals("prepare")) {
             Files.write(folder.resolve("zones"), written(zones()));
+            Files.write(folder.resolve("areas"), written(areas()));
         } else if (words[0].equals("count")) {
             Zones zones = (Zones) read(Files.readAllBytes(folder.resolve("zones")));
-            Counts counts = zones.count(points(Integer.parseInt(words[2])));
-            Files.write(folder.resolve("counts" + words[2]), written(counts));
+            Areas areas = (Areas) read(Files.readAllBytes(folder.resolve("areas")));
+            long[] points = points(Integer.parseInt(words[2]));
+            Files.write(folder.resolve("counts" + words[2]), written(zones.count(points)));
+            Files.write(folder.resolve("areaCounts" + words[2]), written(areas.count(points)));
         } else {
             sum(folder);
+            sumAreas(folder);
             Check.end();
         }
     }

@@ -1,3 +1,6 @@
+import h3whole.AreaCounts;
+import h3whole.AreaLists;
+import h3whole.Areas;
 import h3whole.BaseCellTable;
 import h3whole.BaseCellTableException;
 import h3whole.Columns;
@@ -334,6 +337,114 @@ final class Rows {
         Check.thrown(IllegalStateException.class, () -> zones.count(points));
     }
 
+    private static void areas() {
+        int[] numbers = {0, 1, 0, 2};
+        long[] cells = column(CELL, "85283477fffffff", CELL, "8428347ffffffff");
+        Areas areas = new Areas(cells, numbers);
+        long[] points = column(CELL, "8528347bfffffff", "8528340ffffffff", "85283477fffffff", "8428347ffffffff");
+        AreaLists lists = areas.areasOf(points);
+        Check.same("lists", lists.toArrays(), new int[][] {{2, 0}, {2}, {}, {2, 1}, {2}});
+        Check.same("starts", lists.starts(), new int[] {0, 2, 3, 3, 5, 6});
+        Check.same("numbers", lists.numbers(), new int[] {2, 0, 2, 2, 1, 2});
+        Check.same("places", lists.places(), new int[] {0, 0, 1, 3, 3, 4});
+        Check.same("size", lists.size(), 5);
+        Check.same("of", lists.of(3), new int[] {2, 1});
+        Check.same("none missing", lists.missing(), new BitSet());
+        Check.same("a text", lists.toString(), "Lists of the areas of 5 cells, 6 in all");
+        Check.same("the same", areas.validAreasOf(points), lists);
+        Check.same("a hash", areas.validAreasOf(points).hashCode(), lists.hashCode());
+        Check.that("other lists", !lists.equals(areas.areasOf(new long[] {INDEX})) && !lists.equals(null));
+        Check.thrown(IndexOutOfBoundsException.class, () -> lists.of(-1));
+        Check.thrown(IndexOutOfBoundsException.class, () -> lists.of(5));
+        Check.same("of one", areas.areasOf(0x862834707ffffffL), new int[] {2, 0});
+        Check.same("of none", areas.areasOf(PENTAGON), new int[0]);
+        Check.same("no points", areas.areasOf(new long[0]).starts(), new int[1]);
+        Check.same("no areas", new Areas(new long[0], new int[0]).areasOf(points).toArrays(), new int[5][0]);
+        Check.same("the numbers", areas.numbers(), new int[] {0, 1, 2});
+        Check.same("how many", areas.size(), 3);
+        Check.same("a text", areas.toString(), "3 areas of 3 cells");
+        Check.same("equal", areas, Areas.of(List.of(PARENT, cells[1], INDEX), List.of(2, 1, 0)));
+        Check.same("a hash", areas.hashCode(), Areas.of(List.of(PARENT, cells[1], INDEX), List.of(2, 1, 0)).hashCode());
+        Check.that("others", !areas.equals(new Areas(cells, new int[] {0, 1, 2, 2})) && !areas.equals(null));
+        cells[0] = PENTAGON;
+        lists.numbers()[0] = lists.starts()[1] = lists.places()[0] = lists.of(0)[0] = numbers[3] = 9;
+        lists.missing().set(0);
+        areas.numbers()[0] = 9;
+        Check.same("what was given may change", areas.areasOf(points), lists);
+        Check.same("what was returned may change", areas.validAreasOf(points).toArrays(), lists.toArrays());
+        areaOrder();
+        areaErrors(areas);
+        areaCounts(areas, points);
+        areas.close();
+        areas.close();
+        Check.thrown(IllegalStateException.class, () -> areas.areasOf(INDEX));
+        Check.thrown(IllegalStateException.class, () -> areas.areasOf(points));
+        Check.thrown(IllegalStateException.class, () -> areas.count(points));
+    }
+
+    /** By the coarsest cell of each area, and not by the finest, then by number; twins and children add nothing. */
+    private static void areaOrder() {
+        long[] cells = {INDEX, PARENT, INDEX, INDEX, PARENT, 0x8029fffffffffffL, INDEX};
+        Areas areas = new Areas(cells, new int[] {3, 1, Integer.MIN_VALUE, 1, -1, Integer.MAX_VALUE, 0});
+        Check.same("an order", areas.areasOf(INDEX), new int[] {Integer.MAX_VALUE, -1, 1, Integer.MIN_VALUE, 0, 3});
+        Check.same("an order", areas.areasOf(PARENT), new int[] {Integer.MAX_VALUE, -1, 1});
+        Check.same("numbers", areas.numbers(), new int[] {Integer.MIN_VALUE, -1, 0, 1, 3, Integer.MAX_VALUE});
+        long[] twins = {INDEX, INDEX, PARENT, INDEX};
+        Check.same("twins", new Areas(twins, new int[] {4, 5, 4, 4}).areasOf(INDEX), new int[] {4, 5});
+        Check.same("twins", new Areas(twins, new int[4]).areasOf(new long[] {INDEX, INDEX}).numbers(), new int[2]);
+        // (more than two areas of each cell: there is room at the second time)
+        long[] column = new long[70000];
+        Arrays.fill(column, INDEX);
+        AreaLists lists = areas.areasOf(column);
+        Check.same("all", lists.numbers().length, 420000);
+        Check.same("the last", lists.of(69999), areas.areasOf(INDEX));
+    }
+
+    private static void areaErrors(Areas areas) {
+        long[] mixed = {INDEX, NONE, PENTAGON, 0};
+        String at = "error 5: E_CELL_INVALID: 81087ffffffffff at place 1";
+        Check.refused(at, () -> areas.areasOf(mixed));
+        Check.refused(at, () -> areas.count(mixed));
+        Check.refused(at, () -> new Areas(mixed, new int[4]));
+        Check.refused(at, () -> Areas.of(List.of(INDEX, NONE, 0L), List.of(5, 5, 5)));
+        Check.refused("error 5: E_CELL_INVALID: 81087ffffffffff", () -> areas.areasOf(NONE));
+        Check.refused("error 5: E_CELL_INVALID: ffffffffffffffff at place 0", () -> areas.areasOf(new long[] {-1}));
+        AreaLists lists = areas.validAreasOf(mixed);
+        Check.same("missing", lists.missing(), BitSet.valueOf(new long[] {10}));
+        Check.same("missing", lists.toArrays(), new int[][] {{2, 0}, {}, {}, {}});
+        Check.that("missing is not none", !areas.validAreasOf(new long[] {INDEX, PENTAGON, PENTAGON, 0}).equals(lists));
+        Check.thrown(IllegalArgumentException.class, () -> new Areas(mixed, new int[3]));
+        Check.thrown(IllegalArgumentException.class, () -> new Areas(new long[0], new int[1]));
+        try {
+            new Areas(new long[1], new int[2]);
+            Check.that("an error", false);
+        } catch (IllegalArgumentException error) {
+            Check.same("its text", error.getMessage(), "2 numbers for 1 cells");
+        }
+    }
+
+    private static void areaCounts(Areas areas, long[] points) {
+        AreaCounts counts = areas.count(points);
+        Check.same("numbers", counts.numbers(), new int[] {0, 1, 2});
+        Check.same("counts", counts.counts(), new long[] {1, 1, 4});
+        Check.same("others", counts.others(), 1L);
+        Check.same("of", counts.of(2), 4L);
+        Check.same("a text", counts.toString(), "{0=1, 1=1, 2=4}, others 1, refused 0");
+        Check.thrown(IllegalArgumentException.class, () -> counts.of(3));
+        long[] more = Arrays.copyOf(points, points.length + 2);
+        more[points.length + 1] = INDEX;
+        AreaCounts counted = areas.countValid(more);
+        Check.same("refused", counted.toString(), "{0=2, 1=1, 2=5}, others 1, refused 1");
+        Check.same("plus", counts.plus(areas.countValid(new long[] {0, INDEX})), counted);
+        Check.same("a hash", counts.plus(areas.countValid(new long[] {0, INDEX})).hashCode(), counted.hashCode());
+        Check.that("other counts", !counts.equals(counted) && !counts.equals(null));
+        Check.same("of no points", areas.count(new long[0]).toString(), "{0=0, 1=0, 2=0}, others 0, refused 0");
+        Check.thrown(IllegalArgumentException.class,
+                () -> counts.plus(new Areas(new long[] {INDEX}, new int[1]).count(points)));
+        counts.counts()[0] = counts.numbers()[0] = 9;
+        Check.same("what was returned may change", areas.count(points), counts);
+    }
+
     private static void edges() {
         Check.same("an edge", H3.isValidDirectedEdge(EDGE), true);
         Check.same("direction 1 at a pentagon", H3.isValidDirectedEdge("11009fffffffffff"), false);
@@ -622,7 +733,13 @@ final class Rows {
         nulls(Region.class, new Region(new long[] {INDEX}));
         nulls(BaseCellTable.class, new BaseCellTable(plainTable()));
         nulls(Counts.class, new Zones(new long[] {INDEX}).count(new long[0]));
+        Areas areas = new Areas(new long[] {INDEX}, new int[1]);
+        nulls(Areas.class, areas);
+        nulls(AreaLists.class, areas.areasOf(new long[0]));
+        nulls(AreaCounts.class, areas.count(new long[0]));
         Check.thrown(NullPointerException.class, () -> new Zones(null));
+        Check.thrown(NullPointerException.class, () -> new Areas(null, new int[0]));
+        Check.thrown(NullPointerException.class, () -> new Areas(new long[0], null));
         Check.thrown(NullPointerException.class, () -> new Region(null));
         Check.thrown(NullPointerException.class, () -> new BaseCellTable(null));
     }
@@ -639,6 +756,7 @@ final class Rows {
             Rows::lists,
             Rows::regions,
             Rows::zones,
+            Rows::areas,
             Rows::edges,
             Rows::texts,
             Rows::columns,

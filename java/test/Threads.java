@@ -1,3 +1,6 @@
+import h3whole.AreaCounts;
+import h3whole.AreaLists;
+import h3whole.Areas;
 import h3whole.BaseCellTable;
 import h3whole.Columns;
 import h3whole.Counts;
@@ -7,6 +10,7 @@ import h3whole.Region;
 import h3whole.Zones;
 import java.util.ArrayList;
 import java.util.Arrays;
+import java.util.BitSet;
 import java.util.List;
 import java.util.Random;
 import java.util.concurrent.ExecutorService;
@@ -14,9 +18,13 @@ import java.util.concurrent.Executors;
 import java.util.concurrent.Future;
 import java.util.concurrent.atomic.AtomicBoolean;
 import java.util.function.Supplier;
+import java.util.stream.IntStream;
 import java.util.stream.LongStream;
 
-/** Every function in threads that share tables, regions, zones and columns; and zones that are closed meanwhile. */
+/**
+ * Every function in threads that share tables, regions, zones, areas and columns; and zones and areas that are closed
+ * meanwhile.
+ */
 final class Threads {
     private static final int THREADS = 8;
     private static final long CELL = 0x85283473fffffffL;
@@ -35,6 +43,8 @@ final class Threads {
         long[] compacted = H3.compactCells(region);
         BaseCellTable table = new BaseCellTable(Rows.plainTable());
         Zones zones = new Zones(region);
+        int[] numbers = IntStream.range(0, column.length).map(place -> place % 40).toArray();
+        Areas areas = new Areas(parents, numbers);
         Region some = new Region(parents);
         Region other = new Region(LongStream.of(column).limit(500).toArray());
         String text = "85283473fffffff";
@@ -69,6 +79,11 @@ final class Threads {
         calls.add(() -> LongStream.of(zones.zonesOf(column)).sum());
         calls.add(() -> Arrays.hashCode(zones.covers(column)));
         calls.add(() -> new Zones(region));
+        calls.add(() -> areas.areasOf(column));
+        calls.add(() -> areas.validAreasOf(edges));
+        calls.add(() -> areas.count(column));
+        calls.add(() -> Arrays.toString(areas.areasOf(column[7])));
+        calls.add(() -> new Areas(parents, numbers).countValid(edges));
         calls.add(() -> H3.isValidDirectedEdge(edges[3]) + "," + H3.getDirectedEdgeOrigin(edges[3]));
         calls.add(() -> H3.originToDirectedEdges(text));
         calls.add(() -> new BaseCellTable(Rows.plainTable()).gridDiskUnsafe(CELL, 2));
@@ -116,14 +131,17 @@ final class Threads {
     private static boolean closed(ExecutorService pool) throws Exception {
         long[] cells = H3.cellToChildrenArray(0x8029fffffffffffL, 4);
         long[] points = H3.cellToChildrenArray(0x8029fffffffffffL, 5);
+        int[] numbers = IntStream.range(0, cells.length).map(place -> place % 7).toArray();
         boolean holds = true;
-        for (int round = 0; round < 30; round++) {
+        for (int round = 0; round < 60; round++) {
             Zones zones = new Zones(cells);
+            Areas areas = new Areas(cells, numbers);
+            boolean hasZones = round % 2 == 0;
             List<Future<Boolean>> counted = new ArrayList<>();
             for (int thread = 0; thread < THREADS - 1; thread++) {
-                counted.add(pool.submit(() -> countOrClosed(zones, points)));
+                counted.add(pool.submit(() -> hasZones ? countOrClosed(zones, points) : countOrClosed(areas, points)));
             }
-            pool.submit(zones::close).get();
+            pool.submit(hasZones ? zones::close : areas::close).get();
             for (Future<Boolean> one : counted) {
                 holds &= one.get();
             }
@@ -140,12 +158,22 @@ final class Threads {
         }
     }
 
+    private static boolean countOrClosed(Areas areas, long[] points) {
+        try {
+            AreaCounts counts = areas.count(points);
+            return counts.others() == 0 && LongStream.of(counts.counts()).allMatch(count -> count == points.length / 7);
+        } catch (IllegalStateException error) {
+            return error.getMessage().equals("it is closed");
+        }
+    }
+
     /** A column that another thread writes to: each result is that of one of the values that were there. */
     private static boolean changing(ExecutorService pool) throws Exception {
         long[] column = new long[200000];
         long[] out = new long[column.length];
         long base = H3.cellToParent(CELL, 0);
         Zones zones = new Zones(new long[] {base});
+        Areas areas = new Areas(new long[] {base, CELL, base}, new int[] {1, 2, 3});
         AtomicBoolean isDone = new AtomicBoolean();
         Future<?> writes = pool.submit(() -> {
             for (int round = 0; !isDone.get(); round++) {
@@ -160,6 +188,11 @@ final class Threads {
                 zones.zonesOf(column, out);
             }
             holds &= LongStream.of(out).allMatch(found -> found == 0 || found == base);
+            AreaLists lists = areas.validAreasOf(column);
+            int[] starts = lists.starts();
+            BitSet missing = lists.missing();
+            holds &= IntStream.range(0, column.length)
+                    .allMatch(at -> starts[at + 1] - starts[at] == (missing.get(at) ? 0 : 3));
         }
         isDone.set(true);
         writes.get();

@@ -98,6 +98,8 @@ static jlongArray JNICALL new_longs(JNIEnv *env, jsize length) {
     return object_of(&answered);
 }
 
+static jintArray JNICALL new_ints(JNIEnv *env, jsize length) { return new_longs(env, length); }
+
 /* Lends an array, or a copy of it: meanwhile no other call may be made. */
 static jboolean lends_copies;
 static void *copies[2];
@@ -139,16 +141,17 @@ static void make_machine(void) {
     table.GetByteArrayRegion = get_bytes, table.SetByteArrayRegion = set_bytes;
     table.SetIntArrayRegion = set_ints, table.SetBooleanArrayRegion = set_truths;
     table.GetPrimitiveArrayCritical = lend, table.ReleasePrimitiveArrayCritical = give_back;
-    table.NewLongArray = new_longs, table.NewStringUTF = new_string;
-    (void)get_ints, (void)get_truths;
+    table.GetIntArrayRegion = get_ints;
+    table.NewLongArray = new_longs, table.NewIntArray = new_ints, table.NewStringUTF = new_string;
+    (void)get_truths;
 }
 
 /* ---- The calls: each returns a number by which its answers are compared, or minus the error of its status */
 
 #define CELL   0x85283473fffffff
 #define PARENT 0x8428347ffffffff
-static Array cells, others, column, status, out, file, made_table, text;
-static jlong zones_address;
+static Array cells, others, column, status, out, file, made_table, text, numbers;
+static jlong zones_address, areas_address;
 
 static jlong sum(jlong value, const Array *array) {
     uint64_t all = (uint64_t)value;
@@ -232,6 +235,28 @@ static jlong prepare(jboolean has_places) {
 }
 static jlong prepared(void) { return prepare(JNI_FALSE); }
 static jlong prepared_with_places(void) { return prepare(JNI_TRUE); }
+static jlong prepared_areas(void) {
+    jlong areas = N(areas)(env, NULL, object_of(&cells), object_of(&numbers), STATUS);
+    jlong count = areas ? (jlong)zones_at(areas)->count : -status.items.longs[0];
+    if (areas) N(freeZones)(env, NULL, areas);
+    return count;
+}
+static jlong sum_ints(jlong value, const Array *array) {
+    uint64_t all = (uint64_t)value;
+    jsize i;
+    for (i = 0; i < array->length; i++) all = 31 * all + (uint32_t)array->items.ints[i];
+    return (jlong)(all & INT64_MAX);
+}
+static jintArray areas_of_column(jsize length) {
+    column.length = length, out.length = length + 1;
+    return N(cellsToAreas)(env, NULL, areas_address, object_of(&column), object_of(&out), STATUS);
+}
+/* (nearly each cell is in three areas, so there is room at the second time) */
+static jlong areas_of(void) {
+    jintArray found = areas_of_column(2000);
+    if (!found) return -(status.items.longs[0] >> 32);
+    return sum_ints(sum_ints(status.items.longs[0], &answered), &out);
+}
 static jlong read_table(void) {
     static Array other;
     other.length = 1465, status.length = 3;
@@ -278,6 +303,16 @@ static void make_table(void) {
     CHECK(status.items.longs[0] == H3W_TABLE_ACCEPTED);
 }
 
+/* Two areas of each of the cells but the first, and one above all of them. The numbers of five places are the same. */
+static void make_areas(void) {
+    int i;
+    out.length = numbers.length = 686;
+    for (i = 0; i < 686; i++) out.items.longs[i] = cells.items.longs[i % 343], numbers.items.ints[i] = i % 5 - i;
+    out.items.longs[0] = PARENT;
+    areas_address = N(areas)(env, NULL, object_of(&out), object_of(&numbers), STATUS);
+    CHECK(areas_address != 0);
+}
+
 static void make_lists(void) {
     int i;
     status.length = 1;
@@ -290,6 +325,7 @@ static void make_lists(void) {
     for (i = 0; i < LONG; i++) column.items.longs[i] = cells.items.longs[i * 5 % 343];
     zones_address = N(zones)(env, NULL, object_of(&cells), JNI_TRUE, STATUS);
     CHECK(zones_address != 0);
+    make_areas();
 }
 
 static void try_lists(void) {
@@ -316,6 +352,24 @@ static void try_columns(void) {
           ((jlong)E_RES_DOMAIN << 32 | NOWHERE));
 }
 
+static int is_ints(const Array *found, jsize length, const jint *wanted) {
+    return found->length == length && !memcmp(found->items.ints, wanted, (size_t)length * sizeof *wanted);
+}
+
+/* The area of the coarsest cell comes first, and of the others those below 0. */
+static void try_areas(void) {
+    static const jint starts[] = {0, 3, 3, 4}, wanted[] = {0, -345, -5, 0};
+    try_each("areas", prepared_areas), try_each("cellsToAreas", areas_of);
+    column.items.longs[0] = cells.items.longs[5], column.items.longs[1] = 5, column.items.longs[2] = PARENT;
+    CHECK(areas_of_column(3) && status.items.longs[0] == ((jlong)E_CELL_INVALID << 32 | 1));
+    CHECK(is_ints(&out, 4, starts) && is_ints(&answered, 4, wanted));
+    CHECK(areas_of_column(0) && status.items.longs[0] == 0 && is_ints(&out, 1, starts) && answered.length == 0);
+    cells.items.longs[342] = 5;
+    CHECK(N(areas)(env, NULL, object_of(&cells), object_of(&numbers), STATUS) == 0);
+    CHECK(status.items.longs[0] == E_CELL_INVALID);
+    N(freeZones)(env, NULL, areas_address);
+}
+
 static void try_tables(void) {
     try_each("readTable", read_table);
     status.length = 1;
@@ -332,6 +386,7 @@ int main(void) {
     make_lists();
     try_lists();
     try_columns();
+    try_areas();
     try_tables();
     N(freeZones)(env, NULL, zones_address);
     CHECK(held == 0);

@@ -116,4 +116,13 @@ final class Native {
 
     /** Writes the counts of the zones in their order, and then how many cells have none. */
     static native long countByZones(long zones, long[] cells, long[] counts);
+
+    /** Returns the address of areas, each cell with the number of its area, for {@code freeZones}, or 0. */
+    static native long areas(long[] cells, int[] numbers, long[] status);
+
+    /**
+     * Returns the numbers of the areas of each cell, one cell's after another's, or null without memory, and writes
+     * where those of each begin. The first error, times 2^32, plus its place is in {@code status[0]}.
+     */
+    static native int[] cellsToAreas(long areas, long[] cells, int[] starts, long[] status);
 }
