@@ -5,7 +5,7 @@ use crate::expected::expect;
 use h3_fakes::{Faults, FaultySink, FaultySource, NO_FAULT};
 use h3_parses::read;
 use h3_runs::run_over_rows;
-use std::alloc::Global;
+use std::alloc::{AllocError, Global};
 
 /// The words of a command, the table that it reads, and its output, its line on standard error and
 /// its status.
@@ -17,8 +17,20 @@ const FILE: &str = "8428347ffffffff\n";
 /// Whether a command ends as its row says, over a table that is handed out `most` bytes at a time,
 /// with these faults.
 fn ends(alloc: Global, row: &Row, most: usize, reads: Faults, writes: Faults) -> bool {
-    let (line, table, output, error, status) = *row;
-    let mut input = FaultySource::new(table.as_bytes(), most, reads);
+    ends_over(alloc, row, row.1.as_bytes(), most, reads, writes)
+}
+
+/// The same over these bytes in place of the row's table.
+fn ends_over(
+    alloc: Global,
+    row: &Row,
+    table: &[u8],
+    most: usize,
+    reads: Faults,
+    writes: Faults,
+) -> bool {
+    let (line, _, output, error, status) = *row;
+    let mut input = FaultySource::new(table, most, reads);
     let mut file = FaultySource::new(FILE.as_bytes(), most, NO_FAULT);
     let mut out = FaultySink::<2048>::new(64, writes);
     let mut err = FaultySink::<128>::new(64, NO_FAULT);
@@ -396,6 +408,29 @@ fn a_read_that_fails_ends_rows(rt: HostRuntime) {
     for row in &ANSWERED {
         expect(&rt, row.0, fails_at_each_read(rt.alloc(), row));
     }
+}
+
+/// A row that is too long for its end to be awaited.
+const LONG_ROW: Row = (
+    "h3 getResolutions --field 1",
+    "",
+    "",
+    "line 1: error 1: E_FAILED: longer than 1048575 bytes\n",
+    1,
+);
+
+/// Whether a row of 1,114,112 bytes without its end is refused before the read after them fails.
+fn long_row_is_refused(alloc: Global) -> Result<bool, AllocError> {
+    let mut row = Vec::with_capacity(alloc, 1_114_112)?;
+    row.resize(1_114_112, b'x')?;
+    let reads = Faults::From(17);
+    Ok(ends_over(alloc, &LONG_ROW, row.as_slice(), 65536, reads, NO_FAULT))
+}
+
+#[test]
+fn a_long_row_is_refused_before_a_read_fault(rt: HostRuntime) {
+    let right = long_row_is_refused(rt.alloc());
+    expect(&rt, LONG_ROW.0, matches!(right, Ok(true)));
 }
 
 #[test]
