@@ -42,13 +42,11 @@ class Record:
         new.replace(self.file)
 
     def old(self, digests):
-        """How many of the edits with these digests have no line or an old one, by their crates; of a crate without a
-        line none is asked for."""
-        recorded = {name.partition("/")[0] for name in self.lines}
+        """How many of the edits with these digests have no line or an old one, by crates, if there is a record."""
         counts = {}
-        for name, digest in digests.items():
+        for name, digest in digests.items() if self.lines else ():
             crate = name.partition("/")[0]
-            if crate in recorded and not self.has(name, digest):
+            if not self.has(name, digest):
                 counts[crate] = counts.get(crate, 0) + 1
         return counts
 
