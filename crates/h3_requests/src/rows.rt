@@ -1,7 +1,7 @@
 //! How the rows of a list are read, and written with the answers to their cells.
 
 ghost use Rattle.std.specs.Prelude.{◌≡◌, true, string_bytes};
-ghost use Rattle.h3_requests.specs.Rows.{is_counted, is_plain_field, is_separator};
+ghost use Rattle.h3_requests.specs.Rows.{is_counted, is_counted_if, is_plain_field, is_separator};
 
 /// Which field of a row has its cell.
 #[derive(Drop)]
@@ -66,6 +66,9 @@ pub struct AreaOptions {
     /// What is written for a cell in no area: `--none`.
     pub none: String,
 
+    /// Whether areas may overlap: `--overlapping`. If they may not, two that do are an error.
+    pub overlapping: bool,
+
     ghost plain: { is_plain_field table.rows.separator (string_bytes none) ≡ true },
 }
 
@@ -75,6 +78,15 @@ pub struct Tables {
     /// How the rows of the list are read and written; `None` if the list is bare.
     pub list: Option<RowOptions>,
 
+    /// Which field of the list's rows has the numbers that are added up: `--sum` or `--sum-field`. Only
+    /// `CountCellsInZones` reads it, and only if the list has rows; other commands ignore it.
+    pub sum: Option<CellField>,
+
+    /// Which field of the list's rows divides them, with one list for each of its values: `--by` or
+    /// `--by-field`. Only `CompactCells`, `UncompactCells`, `UniteCells`, `IntersectCells` and
+    /// `SubtractCells` read it, and only if the list has rows; other commands ignore it.
+    pub by: Option<CellField>,
+
     /// How the rows of the file of a region or of zones are read, by the field, the header, the separator
     /// and the quotes of these options; `None` if the file is bare, or its rows have names.
     pub file: Option<RowOptions>,
@@ -82,6 +94,9 @@ pub struct Tables {
     /// How the rows of the file of zones are read, if these have names. Only `CellsToZones` and
     /// `CountCellsInZones` read it; other commands ignore it.
     pub areas: Option<AreaOptions>,
+
+    ghost sum_counted: { is_counted_if sum ≡ true },
+    ghost by_counted: { is_counted_if by ≡ true },
 }
 
 /// Whether a byte may separate fields: one of ASCII that is not in an answer, and ends no row and
