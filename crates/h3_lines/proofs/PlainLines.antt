@@ -9,12 +9,14 @@ use Rattle.h3_lines.specs.List.{said_by, said_by_cell, said_by_index}
 use Rattle.h3_lines.specs.PiecesLaws.{uncut_byte, uncut_none}
 use Rattle.h3_lines.specs.Pieces.{Uncut}
 
-pub nothing_left : (rest : List ℕ) (b : Bool) → (length rest == 0) ≡ b → (n : ℕ) → parsed_number (without_prefix rest) ≡ Some n → b ≡ false
+pub nothing_left : (rest : List ℕ) (b : Bool) → (length rest == 0) ≡ b → (n : ℕ)
+    → parsed_number (without_prefix rest) ≡ Some n → b ≡ false
 nothing_left [] b is n parses = absurd (cc)
 nothing_left (x ∷ rest) b is n parses = let some : (length (x ∷ rest) == 0) ≡ false = grind (arith, nat_tests) in sym is ∙ some
 
 -- a line that parses as an index is not blank
-pub said_by_parsed : (line : List ℕ) (n : ℕ) → length line ≤ 64 → parsed_index line ≡ Some n → said_by line ≡ said_by_cell (cell_in n)
+pub said_by_parsed : (line : List ℕ) (n : ℕ) → length line ≤ 64 → parsed_index line ≡ Some n
+    → said_by line ≡ said_by_cell (cell_in n)
 unfolding parsed_index
 said_by_parsed line n short parses =
     let few : nat_lt 64 (length line) ≡ false = grind (arith, nat_tests) in
@@ -23,7 +25,8 @@ said_by_parsed line n short parses =
 
 -- ---- plain lines
 
-digit_byte : (b : ℕ) (t : Bool) (mark : ℕ) → (b == mark) ≡ t → is_digit b 16 ≡ true → is_digit mark 16 ≡ false → t ≡ false
+digit_byte : (b : ℕ) (t : Bool) (mark : ℕ) → (b == mark) ≡ t → is_digit b 16 ≡ true → is_digit mark 16 ≡ false
+    → t ≡ false
 digit_byte b false mark is digit other = refl
 digit_byte b true mark is digit other = let never : is_digit mark 16 ≡ true = ap (λ n. is_digit n 16) (sym (eqb-true b mark is)) ∙ digit in absurd (cc)
 
@@ -35,8 +38,10 @@ and_false : (x y : Bool) → y ≡ false → (x && y) ≡ false
 and_false true y h = h
 and_false false y h = refl
 
-pub digits_uncut : (q : Bool) (bytes : List ℕ) → list_all (λ b. is_digit b 16) bytes ≡ true → Uncut 10 q false bytes false
+pub digits_uncut : (q : Bool) (bytes : List ℕ) → list_all (λ b. is_digit b 16) bytes ≡ true
+    → Uncut 10 q false bytes false
 digits_uncut q [] h = uncut_none 10 q false
 digits_uncut q (b ∷ bytes) h =
     let (digit, more) = both (is_digit b 16) (list_all (λ b. is_digit b 16) bytes) h in
-    uncut_byte 10 q false b bytes (digit_byte b (b == 10) 10 refl digit refl) (and_false q (b == 34) (digit_byte b (b == 34) 34 refl digit refl)) (digits_uncut q bytes more)
+    uncut_byte 10 q false b bytes (digit_byte b (b == 10) 10 refl digit refl)
+    (and_false q (b == 34) (digit_byte b (b == 34) 34 refl digit refl)) (digits_uncut q bytes more)

@@ -17,7 +17,8 @@ use Rattle.h3_lines.specs.declared.run_error.Fault.TheVariants.{Memory, Read, Wr
 use Rattle.h3_lines.specs.declared.run_error.RunError.{RunError}
 use Rattle.h3_lines.specs.declared.run_error.RunError.TheVariants.{Error, Fault}
 
-more_first : (b : ℕ) (bs : List ℕ) → lines_in (pieces_of false bs) ≡ lines_of bs → lines_in (with_first b (pieces_of false bs)) ≡ first_more b (lines_of bs)
+more_first : (b : ℕ) (bs : List ℕ) → lines_in (pieces_of false bs) ≡ lines_of bs
+    → lines_in (with_first b (pieces_of false bs)) ≡ first_more b (lines_of bs)
 more_first b bs same =
     let (p, ps, e) = first_piece 10 false false bs in
     let lines : lines_of bs ≡ p.0 ∷ lines_in ps = sym same ∙ ap lines_in e in
@@ -28,30 +29,38 @@ pub lines_are : (bytes : List ℕ) → lines_in (pieces_of false bytes) ≡ line
 lines_are [] = refl
 lines_are (b ∷ bs) =
     let same = lines_are bs in
-    elim (b == 10) as (λ t. lines_in (if t && true then ([], false) ∷ pieces_of false bs else with_first b (pieces_of false bs)) ≡ (if t then [] ∷ lines_of bs else first_more b (lines_of bs)))
+    elim (b
+    == 10) as (λ t. lines_in
+    (if t && true then ([], false) ∷ pieces_of false bs else with_first b (pieces_of false bs))
+    ≡ (if t then [] ∷ lines_of bs else first_more b (lines_of bs)))
     [ true ↦ ap (λ l. [] ∷ l) same | false ↦ more_first b bs same ]
 
 -- the lines that end in bytes, and the last one
-pub lines_begun : (bytes : List ℕ) (ended : List Piece) (last : Piece) → pieces_of false bytes ≡ ended ++ last ∷ [] → lines_of bytes ≡ lines_in ended ++ last.0 ∷ []
+pub lines_begun : (bytes : List ℕ) (ended : List Piece) (last : Piece) → pieces_of false bytes ≡ ended ++ last ∷ []
+    → lines_of bytes ≡ lines_in ended ++ last.0 ∷ []
 lines_begun bytes ended last is = sym (lines_are bytes) ∙ ap lines_in is ∙ lines_in-append ended (last ∷ [])
 
 -- ---- a last line without a byte is blank
 
 module _ (answer : Option ℕ → Answer) where
-  last_answered : (n : ℕ) (p : Piece) (t : Bool) → (length p.0 == 0) ≡ t → lines_answer answer n (lines_in (if t then [] else p ∷ [])) ≡ lines_answer answer n (p.0 ∷ [])
+  last_answered : (n : ℕ) (p : Piece) (t : Bool) → (length p.0 == 0) ≡ t
+      → lines_answer answer n (lines_in (if t then [] else p ∷ [])) ≡ lines_answer answer n (p.0 ∷ [])
   last_answered n p true is = rw (empty_from_test p.0 true (sym is) refl) refl
   last_answered n p false is = refl
 
-  pieces_answered : (n : ℕ) (ps : List Piece) → lines_answer answer n (lines_in (without_last_nothing ps)) ≡ lines_answer answer n (lines_in ps)
+  pieces_answered : (n : ℕ) (ps : List Piece)
+      → lines_answer answer n (lines_in (without_last_nothing ps)) ≡ lines_answer answer n (lines_in ps)
   pieces_answered n [] = refl
   pieces_answered n (p ∷ []) = last_answered n p (length p.0 == 0) refl
   pieces_answered n (p ∷ q ∷ ps) = ap (followed_by n (line_answer answer p.0)) (pieces_answered (n + 1) (q ∷ ps))
 
-  pub rows_answered : (bytes : List ℕ) → lines_answer answer 1 (lines_in (rows_of false bytes)) ≡ lines_answer answer 1 (lines_of bytes)
+  pub rows_answered : (bytes : List ℕ)
+      → lines_answer answer 1 (lines_in (rows_of false bytes)) ≡ lines_answer answer 1 (lines_of bytes)
   rows_answered bytes = pieces_answered 1 (pieces_of false bytes) ∙ ap (lines_answer answer 1) (lines_are bytes)
 
 -- the cells, or the error of the first faulty line, at its number
-last_read : (n : ℕ) (p : Piece) (t : Bool) → (length p.0 == 0) ≡ t → cells_from tt n (if t then [] else p ∷ []) ≡ cells_from tt n (p ∷ [])
+last_read : (n : ℕ) (p : Piece) (t : Bool) → (length p.0 == 0) ≡ t
+    → cells_from tt n (if t then [] else p ∷ []) ≡ cells_from tt n (p ∷ [])
 last_read n p true is = rw (empty_from_test p.0 true (sym is) refl) refl
 last_read n p false is = refl
 
@@ -67,26 +76,35 @@ abbrev pub numbered : ℕ → Result (List Address) H3Error → Result (List Add
 numbered n (Ok cells) = Ok cells
 numbered n (Err e) = Err (At n e)
 
-numbered_before : (n faulty : ℕ) (said : Result (Option Address) H3Error) (list : Result (List Address) H3Error) → read_before n said (numbered faulty list) ≡ numbered (number_of_fault n said faulty) (said_before said list)
+numbered_before : (n faulty : ℕ) (said : Result (Option Address) H3Error) (list : Result (List Address) H3Error)
+    → read_before n said (numbered faulty list) ≡ numbered (number_of_fault n said faulty) (said_before said list)
 numbered_before n faulty (Err e) list = refl
 numbered_before n faulty (Ok None) (Ok cells) = refl
 numbered_before n faulty (Ok None) (Err e) = refl
 numbered_before n faulty (Ok (Some cell)) (Ok cells) = refl
 numbered_before n faulty (Ok (Some cell)) (Err e) = refl
 
-pub lines_numbered : (n : ℕ) (ps : List Piece) → cells_from tt n ps ≡ numbered (faulty_from n (lines_in ps)) (cells_said (lines_in ps))
+pub lines_numbered : (n : ℕ) (ps : List Piece)
+    → cells_from tt n ps ≡ numbered (faulty_from n (lines_in ps)) (cells_said (lines_in ps))
 lines_numbered n [] = refl
-lines_numbered n (p ∷ ps) = ap (read_before n (said_by p.0)) (lines_numbered (n + 1) ps) ∙ numbered_before n (faulty_from (n + 1) (lines_in ps)) (said_by p.0) (cells_said (lines_in ps))
+lines_numbered n (p ∷ ps) =
+    ap (read_before n (said_by p.0)) (lines_numbered (n + 1) ps)
+    ∙ numbered_before n (faulty_from (n + 1) (lines_in ps)) (said_by p.0) (cells_said (lines_in ps))
 
-pub rows_numbered : (n : ℕ) (bytes : List ℕ) → cells_from tt n (rows_of false bytes) ≡ numbered (faulty_from n (lines_of bytes)) (listed_cells bytes)
-rows_numbered n bytes = pieces_read n (pieces_of false bytes) ∙ lines_numbered n (pieces_of false bytes) ∙ ap (λ ls. numbered (faulty_from n ls) (cells_said ls)) (lines_are bytes)
+pub rows_numbered : (n : ℕ) (bytes : List ℕ)
+    → cells_from tt n (rows_of false bytes) ≡ numbered (faulty_from n (lines_of bytes)) (listed_cells bytes)
+rows_numbered n bytes =
+    pieces_read n (pieces_of false bytes) ∙ lines_numbered n (pieces_of false bytes)
+    ∙ ap (λ ls. numbered (faulty_from n ls) (cells_said ls)) (lines_are bytes)
 
-pub numbered_cells : (n : ℕ) (list : Result (List Address) H3Error) (cells : List Address) → numbered n list ≡ Ok cells → list ≡ Ok cells
+pub numbered_cells : (n : ℕ) (list : Result (List Address) H3Error) (cells : List Address) → numbered n list ≡ Ok cells
+    → list ≡ Ok cells
 numbered_cells n (Ok found) cells is = let same : found ≡ cells = cc is in ap Ok same
 numbered_cells n (Err e) cells is = absurd (cc is)
 
 -- a refusal of the cells of a list, with the number of its line, whatever may be said of reads
-pub numbered_refused : (reads : Type 0) (n : ℕ) (list : Result (List Address) H3Error) (e : RunError) → IsRefusal (numbered n list) e → RefusesAt reads list n e
+pub numbered_refused : (reads : Type 0) (n : ℕ) (list : Result (List Address) H3Error) (e : RunError)
+    → IsRefusal (numbered n list) e → RefusesAt reads list n e
 numbered_refused reads n (Ok cells) (Error e) is = absurd (cc is)
 numbered_refused reads n (Err d) (Error e) is = (d, refl, cc is)
 numbered_refused reads n list (Fault Memory) h = tt

@@ -12,8 +12,8 @@ use Rattle.h3_lines.specs.declared.run_error.AnswerError.TheVariants.{Call, Tabl
 
 -- Answer: the bytes of the output, and the error that it ends with, if it has one
 --
--- the bytes of the output, and the error that it ends with, if it has one, which fixes the line on standard error and the
--- exit status; a fault is no part of an answer
+-- the bytes of the output, and the error that it ends with, if it has one, which fixes the line on standard error and
+-- the exit status; a fault is no part of an answer
 pub record Answer : Type 0 where
   pub output : List ℕ
   pub ending : Result (Unit {0}) AnswerError
@@ -65,7 +65,8 @@ zone_text (Some zone) = text_of (number_of zone)
 abbrev pub zone_line : Option Address → List ℕ
 zone_line zone = zone_text zone ++ 10 ∷ []
 
--- count_line item: the text of the number of a zone, `0` where there is none, a space, a count in decimal, and a line feed
+-- count_line item: the text of the number of a zone, `0` where there is none, a space, a count in decimal, and a line
+-- feed
 abbrev pub count_line : Option Address × ℕ → List ℕ
 count_line item = zone_text item.0 ++ 32 ∷ decimal item.1 ++ 10 ∷ []
 

@@ -1,5 +1,5 @@
--- Lines and rows that are answered one after another, with answers held back in a block. Of this file public contracts cite
--- `Puts`, `Breaks` and `EndsBy` alone.
+-- Lines and rows that are answered one after another, with answers held back in a block. Of this file public contracts
+-- cite `Puts`, `Breaks` and `EndsBy` alone.
 use Rattle.std.specs.Prelude.{◌≡◌, ⊤, ℕ, ◌<◌, ◌⊎◌, Bool, true, List, [], ◌++◌, length, take, Option, None, Some, Result, Ok, Err}
 use Rattle.std.specs.Io.KnownBytes.{Appends}
 use Rattle.h3_index.specs.declared.error.H3Error.{H3Error}
@@ -26,9 +26,12 @@ answer_said answer (Err e) = refused e
 
 -- ---- bytes that are written
 
--- TakesSome sink bytes: a call of the sink failed: it took a beginning of the bytes, or it took one, and then a flush failed
+-- TakesSome sink bytes: a call of the sink failed: it took a beginning of the bytes, or it took one, and then a flush
+-- failed
 abbrev pub TakesSome : SinkUse → List ℕ → Type 0
-TakesSome sink bytes = SomeBeginning (λ part. Appends sink.before sink.after part ⊎ sink.may_have_taken part) bytes × (sink.has_failed ≡ true)
+TakesSome sink bytes =
+    SomeBeginning (λ part. Appends sink.before sink.after part ⊎ sink.may_have_taken part) bytes
+    × (sink.has_failed ≡ true)
 
 -- Breaks bytes sink e: a write fails, and a beginning of these bytes is taken
 abbrev pub Breaks : List ℕ → SinkUse → RunError → Type 0
@@ -47,8 +50,8 @@ pub record Moves {S : Type 0} (taken : S → Option (List ℕ)) (failed : S → 
 
 -- ---- pieces that are answered: `answer last v pieces` is the answer to them in the state v, and then to what is last
 
--- From one moment to a later one these pieces are answered, from the one state to the other: some of the answers is taken
--- by the sink, and the rest held back.
+-- From one moment to a later one these pieces are answered, from the one state to the other: some of the answers is
+-- taken by the sink, and the rest held back.
 pub record Answered {S L N : Type 0} (taken : S → Option (List ℕ)) (failed : S → Bool) (answer : L → N → List Piece → Answer) (v w : N) (held held' : List ℕ) (old new : S) (pieces : List Piece) : Type 0 where
   pub text : List ℕ
   pub says : (last : L) (more : List Piece) → answer last v (pieces ++ more) ≡ before text (answer last w more)
@@ -62,7 +65,8 @@ EndsBy a (Fault Read) out = ⊥
 EndsBy a (Fault Memory) out = ⊥
 
 -- these bytes and the answer to these pieces, in this state, end so, whatever is last
-abbrev pub RefusesEach : {L N : Type 0} → (L → N → List Piece → Answer) → N → List ℕ → List Piece → RunError → SinkUse → Type 0
+abbrev pub RefusesEach : {L N : Type 0} → (L → N → List Piece → Answer) → N → List ℕ → List Piece → RunError → SinkUse
+    → Type 0
 RefusesEach {L = L} answer v held pieces e out = (last : L) → EndsBy (before held (answer last v pieces)) e out
 
 -- ---- pieces that are lines

@@ -5,6 +5,7 @@ pub mod BlockLaws
 pub mod EachLaws
 pub mod EachLine
 pub mod EachLines
+pub mod EachTexts
 pub mod Ending
 pub mod EndingLaws
 pub mod Examples

@@ -12,7 +12,8 @@ both_are_lines xs ys h (inl none) = elim h [
   | inl all ↦ inl (ap (λ l. l ++ ys) all ∙ none)
   | inr (front, is) ↦ inr (front, ap (λ l. xs ++ l) none ∙ append-nil xs ∙ is)
 ]
-both_are_lines xs ys h (inr (front, is)) = inr (xs ++ front, ap (λ l. xs ++ l) is ∙ sym (append_assoc xs front (10 ∷ [])))
+both_are_lines xs ys h (inr (front, is)) =
+    inr (xs ++ front, ap (λ l. xs ++ l) is ∙ sym (append_assoc xs front (10 ∷ [])))
 
 pub cells_are_lines : (cells : List Address) → AreLines (cell_lines cells)
 cells_are_lines [] = inl refl

@@ -35,7 +35,8 @@ said_by_index (Some index) = said_by_cell (cell_in index)
 -- a line of more than 64 bytes is faulty, also one of blanks; any other of blanks alone is skipped
 abbrev pub said_by : List ℕ → Result (Option Address) H3Error
 said_by line =
-    if nat_lt 64 (length line) then Err Failed else if length (trimmed line) == 0 then Ok None else said_by_index (parsed_index line)
+    if nat_lt 64 (length line) then Err Failed else if length (trimmed line)
+    == 0 then Ok None else said_by_index (parsed_index line)
 
 -- ---- the list
 

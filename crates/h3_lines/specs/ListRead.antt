@@ -11,8 +11,8 @@ use Rattle.h3_lines.specs.declared.run_error.RunError.TheVariants.{Fault}
 
 -- ListRead reads page input cells: a list is read to its end, its lines have these cells, and no read fails
 --
--- there are bytes of the list, those left in the source where these are known; this many reads of a page of this many bytes
--- can find their end
+-- there are bytes of the list, those left in the source where these are known; this many reads of a page of this many
+-- bytes can find their end
 pub record ListRead (reads page : ℕ) (input : SourceUse) (cells : List Address) : Type 0 where
   pub list : List ℕ
   pub held : HasLeft input.left list
@@ -24,7 +24,8 @@ pub record ListRead (reads page : ℕ) (input : SourceUse) (cells : List Address
 -- ListRefused refuses reads page input e: a list is refused, as `refuses` says of its bytes
 --
 -- At most a page was read after bytes in which no line is known to be faulty; where a read fails, or no read is left,
--- nothing after such bytes. If the error is the list's own, this many reads of a page can find its end or a faulty line.
+-- nothing after such bytes. If the error is the list's own, this many reads of a page can find its end or a faulty
+-- line.
 pub record ListRefused (refuses : Type 0 → List ℕ → RunError → Type 0) (reads page : ℕ) (input : SourceUse) (e : RunError) : Type 0 where
   pub list : List ℕ
   pub held : HasLeft input.left list
@@ -34,8 +35,8 @@ pub record ListRefused (refuses : Type 0 → List ℕ → RunError → Type 0) (
   pub stops : StopsWithin page input
   pub faults : e ≡ Fault Read → StopsWithin 0 input
 
--- RefusesByError read_fails list e: the refusal fits the list in these bytes: its own error, out of memory, or a read fault where
--- reads fail
+-- RefusesByError read_fails list e: the refusal fits the list in these bytes: its own error, out of memory, or a read
+-- fault where reads fail
 abbrev pub RefusesByError : Type 0 → List ℕ → RunError → Type 0
 RefusesByError read_fails list e = RefusesList read_fails (listed_cells list) e
 

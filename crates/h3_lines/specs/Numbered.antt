@@ -25,8 +25,8 @@ faulty_line bytes = faulty_from 1 (lines_of bytes)
 
 -- RefusesAt: `RefusesList`, where the list's own error is reported with this number of a line
 --
--- a refusal fits the list: an error is the list's own, reported with this number, out of memory says nothing of it, and a
--- read fault comes only where reads fail
+-- a refusal fits the list: an error is the list's own, reported with this number, out of memory says nothing of it, and
+-- a read fault comes only where reads fail
 abbrev pub RefusesAt : Type 0 → Result (List Address) H3Error → ℕ → RunError → Type 0
 RefusesAt read_fails list number (Error e) = (error : H3Error) × (list ≡ Err error) × (e ≡ At number error)
 RefusesAt read_fails list number (Fault Memory) = ⊤

@@ -15,7 +15,8 @@ pub record SourceUse : Type 0 where
 
 -- source_use: that use of a source, from its two states
 abbrev pub source_use : {S : Type 0} → (S → Option (List ℕ)) → (S → Bool) → S → S → SourceUse
-source_use left failed old new = record { left = left old; left_after = left new; had_failed = failed old; has_failed = failed new }
+source_use left failed old new =
+    record { left = left old; left_after = left new; had_failed = failed old; has_failed = failed new }
 
 -- NoReadFails source: no read of it failed
 abbrev pub NoReadFails : SourceUse → Type 0
@@ -43,8 +44,8 @@ IsListWithinReads reads page list =
 
 -- HasNoFaultYet bytes: no line that ends in the bytes is faulty, and the last one has at most 64 bytes
 --
--- no line of the bytes is known to be faulty: those that end in them are not, and the last one, which may go on after them,
--- has at most 64 bytes
+-- no line of the bytes is known to be faulty: those that end in them are not, and the last one, which may go on after
+-- them, has at most 64 bytes
 pub record HasNoFaultYet (bytes : List ℕ) : Type 0 where
   pub ended : List (List ℕ)
   pub last : List ℕ
@@ -61,7 +62,9 @@ pub record StopsAtFault (most : ℕ) (list left : List ℕ) : Type 0 where
   pub within : length last ≤ most
   pub good : HasNoFaultYet before
 
--- StopsWithin n source: where the bytes left in the source were known, at most n were taken after bytes in which no line
--- is known to be faulty
+-- StopsWithin n source: where the bytes left in the source were known, at most n were taken after bytes in which no
+-- line is known to be faulty
 abbrev pub StopsWithin : ℕ → SourceUse → Type 0
-StopsWithin n source = (list : List ℕ) → source.left ≡ Some list → (left : List ℕ) × (source.left_after ≡ Some left) × StopsAtFault n list left
+StopsWithin n source =
+    (list : List ℕ) → source.left ≡ Some list
+    → (left : List ℕ) × (source.left_after ≡ Some left) × StopsAtFault n list left

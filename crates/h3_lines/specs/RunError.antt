@@ -34,7 +34,8 @@ error_line e = codes "error " ++ decimal (error_number e) ++ codes ": " ++ error
 abbrev pub error_line_at : ℕ → H3Error → List ℕ
 error_line_at line e = codes "line " ++ decimal line ++ codes ": " ++ error_line e
 
--- fault_reason f: why a row has error 1, as `2 fields, the header has 3`, which has the row's number of fields and the header's
+-- fault_reason f: why a row has error 1, as `2 fields, the header has 3`, which has the row's number of fields and the
+-- header's
 abbrev pub fault_reason : RowFault → List ℕ
 fault_reason NotAnIndex = codes "not an index"
 fault_reason NoSuchField = codes "no such field"
@@ -44,27 +45,32 @@ fault_reason OpenQuote = codes "a quote that is not closed"
 fault_reason CarriageReturn = codes "a carriage return inside a row"
 fault_reason TooLong = codes "longer than 1048575 bytes"
 
--- row_error_name e: the name of a row's error: `E_FAILED` of a bad row, and else that of its H3 error
+-- row_error_name e: the name of a row's error: `E_FAILED` of a bad row and of a field that is not a number, and else
+-- that of its H3 error
 abbrev pub row_error_name : RowError → List ℕ
 row_error_name (of_row.Bad f) = error_name Failed
 row_error_name (of_row.Call e) = error_name e
+row_error_name of_row.NotANumber = error_name Failed
 
--- row_error_words e: the number and the name of a row's error, and of a bad row the reason, as `error 1: E_FAILED: not an index`
+-- row_error_words e: the number and the name of a row's error, and of a bad row the reason, as `error 1: E_FAILED: not
+-- an index`; of a field that is not a number `sum: not a number`, since the sum alone needs one
 abbrev pub row_error_words : RowError → List ℕ
 row_error_words (of_row.Bad f) = error_words Failed ++ codes ": " ++ fault_reason f
 row_error_words (of_row.Call e) = error_words e
+row_error_words of_row.NotANumber = codes "sum: not a number"
 
 -- and_words e: what joins a row's error and how many more followed: after a reason there is a comma
 abbrev pub and_words : RowError → List ℕ
 and_words (of_row.Bad f) = codes ", and "
 and_words (of_row.Call e) = codes " and "
+and_words of_row.NotANumber = codes " and "
 
 -- more_words e more: how many errors more followed a row's error, as ` and 6 more`; no words where none did
 abbrev pub more_words : RowError → ℕ → List ℕ
 more_words e more = if more == 0 then [] else and_words e ++ decimal more ++ codes " more"
 
--- row_line row e more: the line of an error at a row that so many more followed, as `line 12: error 5: E_CELL_INVALID and 6 more`
--- or `line 2: error 1: E_FAILED: not an index, and 6 more`
+-- row_line row e more: the line of an error at a row that so many more followed, as `line 12: error 5: E_CELL_INVALID
+-- and 6 more` or `line 2: error 1: E_FAILED: not an index, and 6 more`
 abbrev pub row_line : ℕ → RowError → ℕ → List ℕ
 row_line row e more = codes "line " ++ decimal row ++ codes ": " ++ row_error_words e ++ more_words e more ++ 10 ∷ []
 
@@ -132,7 +138,8 @@ refusal_line (Error e) = answer_error_line e
 refusal_line (Fault f) = fault_line f
 
 -- answer_error_status e: the exit status of an answer's error: 1 for an H3 error, 3 for a header whose columns do not
--- serve, the list's or a file's, and 3 for an error of a base cell table that is neither out of memory nor a read that failed
+-- serve, the list's or a file's, and 3 for an error of a base cell table that is neither out of memory nor a read that
+-- failed
 abbrev pub answer_error_status : AnswerError → ℕ
 answer_error_status (Call e) = 1
 answer_error_status (At line e) = 1

@@ -6,7 +6,8 @@ use Rattle.h3_lines.specs.declared.run_error.RunError.TheVariants as refusal
 use Rattle.h3_lines.specs.declared.stop.Stop.{Stop}
 use Rattle.h3_lines.specs.declared.stop.Stop.TheVariants.{Fault, Refused}
 
--- stopped_at number stop: why the run ends of a list that stops at the line with this number; private contracts alone cite it
+-- stopped_at number stop: why the run ends of a list that stops at the line with this number; private contracts alone
+-- cite it
 abbrev pub stopped_at : ℕ → Stop → RunError
 stopped_at number (Refused error) = refusal.Error (At number error)
 stopped_at number (Fault fault) = refusal.Fault fault

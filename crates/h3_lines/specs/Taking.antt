@@ -1,5 +1,5 @@
--- Cells that are taken as the rows, or the lines, of a list are read. Of this file public contracts cite `cell_list` and
--- `cells_before` alone. The type C is of what is taken for a cell: the cell, or the cell with its name.
+-- Cells that are taken as the rows, or the lines, of a list are read. Of this file public contracts cite `cell_list`
+-- and `cells_before` alone. The type C is of what is taken for a cell: the cell, or the cell with its name.
 use Rattle.std.specs.Prelude.{◌≡◌, ⊤, ℕ, ◌+◌, List, [], ◌∷◌, ◌++◌, Option, None, Some, Result, Ok, Err}
 use Rattle.h3_index.specs.Cell.{Address}
 use Rattle.h3_index.specs.declared.error.H3Error.{H3Error}
@@ -25,8 +25,10 @@ cells_before cells (Err e) = Err e
 -- then what is last
 
 -- from the one state to the other these rows are read, which have these cells and no error
-abbrev pub HaveCells : {C L N : Type 0} → (L → N → List Piece → Result (List C) AnswerError) → N → List Piece → List C → N → Type 0
-HaveCells {L = L} cells_of v rows cells w = (last : L) (more : List Piece) → cells_of last v (rows ++ more) ≡ cells_before cells (cells_of last w more)
+abbrev pub HaveCells : {C L N : Type 0} → (L → N → List Piece → Result (List C) AnswerError) → N → List Piece → List C
+    → N → Type 0
+HaveCells {L = L} cells_of v rows cells w =
+    (last : L) (more : List Piece) → cells_of last v (rows ++ more) ≡ cells_before cells (cells_of last w more)
 
 -- a refusal fits cells: their own error, or out of memory
 abbrev pub IsRefusal : {C : Type 0} → Result (List C) AnswerError → RunError → Type 0
@@ -36,13 +38,15 @@ IsRefusal cells (Fault Read) = ⊥
 IsRefusal cells (Fault Write) = ⊥
 
 -- a refusal fits the cells of these rows in this state, whatever is last
-abbrev pub RefusesCells : {C L N : Type 0} → (L → N → List Piece → Result (List C) AnswerError) → N → List Piece → RunError → Type 0
+abbrev pub RefusesCells : {C L N : Type 0} → (L → N → List Piece → Result (List C) AnswerError) → N → List Piece
+    → RunError → Type 0
 RefusesCells {L = L} cells_of v rows e = (last : L) → IsRefusal (cells_of last v rows) e
 
 -- ---- rows that are lines
 
 -- what the line with this number says, before the cells of the lines after it
-abbrev pub read_before : ℕ → Result (Option Address) H3Error → Result (List Address) AnswerError → Result (List Address) AnswerError
+abbrev pub read_before : ℕ → Result (Option Address) H3Error → Result (List Address) AnswerError
+    → Result (List Address) AnswerError
 read_before number (Err e) later = Err (At number e)
 read_before number (Ok cell) later = cells_before (cell_list cell) later
 

@@ -12,11 +12,13 @@ use Rattle.h3_lines.specs.declared.run_error.RunError.TheVariants.{Error, Fault}
 -- MayHaveTaken: there is a state of the sink in which it has taken these bytes with no failed call, and in the new one
 -- they are kept or no longer known, as after a flush that failed
 --
--- There is a state of the sink in which it has taken these bytes, with no failed call, and in the new one they are kept or
--- no longer known, as by a flush that fails. A function over any sink knows of such a state only by pushing the bytes.
+-- There is a state of the sink in which it has taken these bytes, with no failed call, and in the new one they are kept
+-- or no longer known, as by a flush that fails. A function over any sink knows of such a state only by pushing the
+-- bytes.
 abbrev pub MayHaveTaken : {S : Type 0} → (S → Option (List ℕ)) → (S → Bool) → S → S → List ℕ → Type 0
 MayHaveTaken {S = S} taken failed old new bytes =
-    (whole : S) × Appends (taken old) (taken whole) bytes × (failed whole ≡ failed old) × KeepsOrHides (taken whole) (taken new)
+    (whole : S) × Appends (taken old) (taken whole) bytes × (failed whole ≡ failed old)
+    × KeepsOrHides (taken whole) (taken new)
 
 -- SinkUse: what a sink had taken before a call and has after it, where known, whether it had failed and has, and which
 -- bytes it may have taken before a flush that failed

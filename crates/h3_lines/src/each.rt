@@ -140,9 +140,19 @@ pub(crate) trait Answering {
     /// The answer to an index, or to a word that parses as none.
     ghost answer_of: { Self → Option ℕ → Answer };
 
-    /// Puts the answer to the index on the next line. What has no room is written.
-    fn answer<'a, W: Sink>(&self, index: Option<u64>, held: &mut Output<'a, W>) -> Result<(), Stop>
-        requires { held.old.number < 2 ^ 63 }
+    /// How many numbers it needs.
+    ghost needs: { Self → ℕ };
+
+    /// Puts the answer to the index on the next line. What has no room is written. The numbers are
+    /// unspecified afterwards.
+    fn answer<'a, W: Sink>(
+        &self,
+        index: Option<u64>,
+        held: &mut Output<'a, W>,
+        numbers: &mut [u32],
+    ) -> Result<(), Stop>
+        requires few { held.old.number < 2 ^ 63 }
+        requires room { needs self.now ≤ length numbers.old }
         ensures ok { OnOk result ((line : Piece) →
             line_answer (answer_of self.now) line.0 ≡ answer_of self.now index →
             Answered W.taken W.has_failed (lines_from (answer_of self.now)) held.old.number
@@ -179,11 +189,14 @@ struct Short<'f, F> {
 impl<'f, F: AnswerLine> Answering for Short<'f, F> {
     ghost answer_of = { λ f. F.answer_of f.function.now };
 
+    ghost needs = { λ f. 0 };
+
     #[inline(always)]
     fn answer<'a, W: Sink>(
         &self,
         index: Option<u64>,
         held: &mut Output<'a, W>,
+        _numbers: &mut [u32],
     ) -> Result<(), Stop> {
         let at = make_room(held.out, &mut held.block, held.end)?;
         match self
@@ -215,9 +228,11 @@ impl<'f, F: AnswerLine> Answering for Short<'f, F> {
 
 /// The answers to the lines of a list.
 #[derive(Drop)]
-struct Answers<'a, 'f, W, A> {
+struct Answers<'a, 'f, W, A: Answering> {
     held: Output<'a, W>,
     function: &'f A,
+    numbers: &'f mut [u32],
+    ghost room: { A.needs function.now ≤ length numbers.now },
 }
 
 impl<'a, 'f, W: Sink, A: Answering> JobContract for Answers<'a, 'f, W, A> {
@@ -277,7 +292,7 @@ impl<'a, 'f, W: Sink, A: Answering> IndexJob for Answers<'a, 'f, W, A> {
     fn take_index(&mut self, index: u64, place: Option<usize>) -> Result<(), Stop> {
         let held = &mut self.held;
         held.place = place.unwrap_or(held.place);
-        self.function.answer(Some(index), held)
+        self.function.answer(Some(index), held, self.numbers)
     }
 
     #[inline(always)]
@@ -295,7 +310,7 @@ impl<'a, 'f, W: Sink, A: Answering> Job for Answers<'a, 'f, W, A> {
     fn take(&mut self, line: &[u8], _inside: bool) -> Result<(), RunError> {
         let held = &mut self.held;
         match index_on(line) {
-            Ok(Some(index)) => match self.function.answer(index, held) {
+            Ok(Some(index)) => match self.function.answer(index, held, self.numbers) {
                 Ok(()) => Ok(()),
                 Err(stop) => Err(stop.at(held.number)),
             },
@@ -347,11 +362,13 @@ fn answer_lines<'a, 'f, R: Source, W: Sink, A: Answering>(
 #[inline(never)]
 pub(crate) fn answer_pages<R: Source, W: Sink, A: Answering>(
     function: &A,
+    numbers: &mut [u32],
     input: &mut R,
     out: &mut W,
     page: &mut Vec<u8>,
 ) -> Result<(), RunError>
     requires page { LONGEST_LINE + PAGE ≤ vec_capacity page.old }
+    requires room { A.needs function.now ≤ length numbers.old }
     ensures { EndsEach (A.answer_of function.now) (R.left input.old) (R.left input.new)
         (R.has_failed input.old) (R.has_failed input.new) result
         (sink_use W.taken W.has_failed out.old out.new) }
@@ -363,7 +380,11 @@ pub(crate) fn answer_pages<R: Source, W: Sink, A: Answering>(
         block: [0; BLOCK],
         end: 0,
     };
-    let mut answers = Answers { held, function };
+    let mut answers = Answers {
+        held,
+        function,
+        numbers,
+    };
     let ending = answer_lines(&mut answers, input, page);
     // The proof reads what the sink is after the writes from this use of it.
     let _ = &*out;
@@ -396,5 +417,5 @@ pub fn answer_each<R: Source, W: Sink, F: AnswerLine>(
         (sink_use W.taken W.has_failed out.old out.new) }
 {
     let mut page = row_page(alloc, LONGEST_LINE, PAGE)?;
-    answer_pages(&Short { function }, input, out, &mut page)
+    answer_pages(&Short { function }, &mut [], input, out, &mut page)
 }

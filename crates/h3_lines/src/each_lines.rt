@@ -70,10 +70,13 @@ struct Long<'f, F> {
 impl<'f, F: LinesFunction> Answering for Long<'f, F> {
     ghost answer_of = { λ f. F.answer_of f.function.now };
 
+    ghost needs = { λ f. 0 };
+
     fn answer<'a, W: Sink>(
         &self,
         index: Option<u64>,
         held: &mut Output<'a, W>,
+        _numbers: &mut [u32],
     ) -> Result<(), Stop> {
         match self.function.lines(index) {
             Ok(items) => {
@@ -107,5 +110,5 @@ pub fn answer_each_lines<R: Source, W: Sink, F: LinesFunction>(
         (sink_use W.taken W.has_failed out.old out.new) }
 {
     let mut page = row_page(alloc, LONGEST_LINE, PAGE)?;
-    answer_pages(&Long { function }, input, out, &mut page)
+    answer_pages(&Long { function }, &mut [], input, out, &mut page)
 }

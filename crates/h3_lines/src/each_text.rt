@@ -62,10 +62,13 @@ struct Texts<'f, F> {
 impl<'f, F: TextFunction> Answering for Texts<'f, F> {
     ghost answer_of = { λ f. F.answer_of f.function.now };
 
+    ghost needs = { λ f. 0 };
+
     fn answer<'a, W: Sink>(
         &self,
         index: Option<u64>,
         held: &mut Output<'a, W>,
+        _numbers: &mut [u32],
     ) -> Result<(), Stop> {
         match self.function.text(index, &mut held.place) {
             Ok(text) => {
@@ -109,5 +112,5 @@ pub fn answer_each_text<R: Source, W: Sink, F: TextFunction>(
         (sink_use W.taken W.has_failed out.old out.new) }
 {
     let mut page = row_page(alloc, LONGEST_LINE, PAGE)?;
-    answer_pages(&Texts { function }, input, out, &mut page)
+    answer_pages(&Texts { function }, &mut [], input, out, &mut page)
 }

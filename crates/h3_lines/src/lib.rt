@@ -5,6 +5,7 @@
 mod each;
 mod each_lines;
 mod each_text;
+mod each_texts;
 mod ending;
 pub mod laws;
 mod line;
@@ -19,6 +20,7 @@ mod write;
 pub use each::{AnswerLine, answer_each, put_result, refuse};
 pub use each_lines::{LinesFunction, answer_each_lines, walk_through};
 pub use each_text::{TextFunction, answer_each_text};
+pub use each_texts::{TextsFunction, answer_each_texts};
 pub use ending::report;
 pub use line::{ANSWER, BLOCK, Line, RingCell};
 pub use list::{read_cells, read_list, read_numbered_cells};

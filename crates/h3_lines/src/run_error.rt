@@ -120,22 +120,26 @@ pub enum RowError {
 
     /// The call for the row's index gave an H3 error.
     Call(H3Error),
+
+    /// The field of a sum is absent, or its text is not a number.
+    NotANumber,
 }
 
 impl RowError {
     ghost use Rattle.h3_lines.specs.RunError.{more_words, row_error_name, row_error_words};
 
-    /// The name of the error in H3's table of error codes.
+    /// The name of the error in H3's table of error codes; `E_FAILED` for a field that is not a number.
     pub fn name(self) -> &'static str
         ensures { result.now ≡ row_error_name self }
     {
         match self {
-            RowError::Bad(_) => H3Error::Failed.name(),
+            RowError::Bad(_) | RowError::NotANumber => H3Error::Failed.name(),
             RowError::Call(error) => error.name(),
         }
     }
 
-    /// The number and the name of the error, with the reason if the row is bad.
+    /// The number and the name of the error, with the reason if the row is bad; for a field that is not a
+    /// number, what needs it to be one.
     fn words(self) -> ArrayString<LINE_ROOM>
         ensures words { result.bytes ≡ row_error_words self }
         ensures short { length result.bytes ≤ 97 }
@@ -148,6 +152,7 @@ impl RowError {
                 words
             }
             RowError::Call(error) => error_words(error),
+            RowError::NotANumber => fixed_text("sum: not a number"),
         }
     }
 
@@ -161,7 +166,7 @@ impl RowError {
         if more > 0 {
             words.push_str(match self {
                 RowError::Bad(_) => ", and ",
-                RowError::Call(_) => " and ",
+                RowError::Call(_) | RowError::NotANumber => " and ",
             });
             words.push_str(decimal.format(more));
             words.push_str(" more");

@@ -13,10 +13,12 @@ returns-in-Ok-clause-cells g c =
     items_read _ _ cells c.args.limit _ input c.new.ensures.items is told
 
 pub returns-clause-refused : goal.returns-clause-refused
-returns-clause-refused g c = rw c.without_line.ensures (refused_unnumbered _ _ _ c.in-Err.refusal c.in-Err.ensures.refused)
+returns-clause-refused g c =
+    rw c.without_line.ensures (refused_unnumbered _ _ _ c.in-Err.refusal c.in-Err.ensures.refused)
 
 pub returns-in_err-page-clause-refused : goal.returns-in_err-page-clause-refused
 returns-in_err-page-clause-refused g c =
     let p = err_from_is_err_and c.from_residual.result c.from_residual.ensures.1 in
     let input = source_use g.R.Source.left g.R.Source.has_failed c.args.input.now c.args.input.now in
-    rw (p.1, p.2, c.in_err-page.ensures.err) (refused_unnumbered c.args.limit c.args.size input (Fault Memory) (list_unread c.args.limit c.args.size input refl refl))
+    rw (p.1, p.2, c.in_err-page.ensures.err) (refused_unnumbered c.args.limit c.args.size input (Fault Memory)
+    (list_unread c.args.limit c.args.size input refl refl))

@@ -13,8 +13,10 @@ loop-index-init g c = record {
 
 pub loop-index-preserved : goal.loop-index-preserved
 loop-index-preserved g c =
-    let less : length c.in-Some.after.now < length c.loop-index.left.now = plain_shorter c.loop-index.left.now c.in-Some.after.now c.in-Some.index c.in-Some.ensures in
-    let one : g.J.JobContract.count c.take_index.new.self ≤ g.J.JobContract.count c.loop-index.job + 1 = c.in_default-take_index.ensures.counted in
+    let less : length c.in-Some.after.now < length c.loop-index.left.now =
+    plain_shorter c.loop-index.left.now c.in-Some.after.now c.in-Some.index c.in-Some.ensures in
+    let one : g.J.JobContract.count c.take_index.new.self ≤ g.J.JobContract.count c.loop-index.job + 1 =
+    c.in_default-take_index.ensures.counted in
     record {
       goes = λ q. goes_then q g.J.JobContract.taken g.met.J.JobContract.taken_then (c.loop-index.invariant.goes q) (goes_plain g.J.JobContract.taken q c.loop-index.left.now c.in-Some.after.now c.in-Some.index c.in-Some.ensures c.in_default-take_index.ensures.ok);
       same = λ all. absurd (omega (arith, all, less, c.loop-index.invariant.fewer));

@@ -10,7 +10,8 @@ returns-clause-ok g c =
     let t = rw (← c.deref.ensures.value) at c.in_ok-held.ensures.ok in
     let left : Piece = (take c.in_ok-held.held c.deref.result.now, c.in_ok-held.inside) in
     on_ok_weaker c.take_last.result
-    (λ last. ended_taken q g.J.JobContract.longest g.J.JobContract.taken (rows_of q) t (without_last_nothing (left ∷ [])) (rows_end q t.bytes t.ended left t.pieces) g.met.J.JobContract.taken_then last)
+    (λ last. ended_taken q g.J.JobContract.longest g.J.JobContract.taken (rows_of q) t (without_last_nothing (left ∷
+    [])) (rows_end q t.bytes t.ended left t.pieces) g.met.J.JobContract.taken_then last)
     c.take_last.ensures.ok
 
 pub returns-clause-err : goal.returns-clause-err
@@ -20,7 +21,9 @@ returns-clause-err g c =
     let left : Piece = (take c.in_ok-held.held c.deref.result.now, c.in_ok-held.inside) in
     IfErr-weaker c.take_last.result _ _
     (λ e refuses. inr (
-      ended_refused q g.J.JobContract.longest g.J.JobContract.taken (rows_of q) t (without_last_nothing (left ∷ [])) (rows_end q t.bytes t.ended left t.pieces) g.J.JobContract.refused g.J.JobContract.settled c.in_ok-held.ensures.settled refuses,
+      ended_refused q g.J.JobContract.longest g.J.JobContract.taken (rows_of q) t (without_last_nothing (left ∷ []))
+          (rows_end q t.bytes t.ended left t.pieces) g.J.JobContract.refused g.J.JobContract.settled
+          c.in_ok-held.ensures.settled refuses,
       c.in_ok-held.ensures.sound,
     ))
     c.take_last.ensures.err

@@ -5,8 +5,12 @@ use Rattle.h3_lines.proofs.splitting.split.Goals as goal
 pub returns-in-Some-clause-cut : goal.returns-in-Some-clause-cut
 returns-in-Some-clause-cut c =
     let (first, passes) = c.in-Some.ensures in
-    rw (c.if-quotes.false, c.requires.outside c.if-quotes.false, take_rest) (unmarked_cut c.args.mark c.args.bytes.now c.in-Some.at first.high first.before passes)
+    rw (c.if-quotes.false, c.requires.outside c.if-quotes.false, take_rest)
+    (unmarked_cut c.args.mark c.args.bytes.now c.in-Some.at first.high first.before passes)
 
 pub returns-in-None-clause-uncut : goal.returns-in-None-clause-uncut
 returns-in-None-clause-uncut c =
-    rw (c.if-quotes.false, c.requires.outside c.if-quotes.false) (unmarked_all c.args.mark c.args.bytes.now c.in-None.ensures)
+    rw (
+      c.if-quotes.false,
+      c.requires.outside c.if-quotes.false,
+    ) (unmarked_all c.args.mark c.args.bytes.now c.in-None.ensures)

@@ -12,7 +12,9 @@ loop-after-init g c = record {
 
 pub loop-after-preserved : goal.loop-after-preserved
 loop-after-preserved g c = record {
-  goes = goes_then c.args.quotes g.J.JobContract.taken g.met.J.JobContract.taken_then c.loop-after.invariant.goes (rw c.in-Some.is at c.in_ok-after.ensures.some);
+  goes =
+      goes_then c.args.quotes g.J.JobContract.taken g.met.J.JobContract.taken_then c.loop-after.invariant.goes
+      (rw c.in-Some.is at c.in_ok-after.ensures.some);
   fewer = omega (arith, c.loop-after.invariant.fewer, rw c.in-Some.is at c.in_ok-after.ensures.fewer);
   counted = omega (arith, c.loop-after.invariant.counted, rw c.in-Some.is at c.in_ok-after.ensures.counted);
 }
@@ -20,7 +22,10 @@ loop-after-preserved g c = record {
 pub returns-in_err-after-clause-err : goal.returns-in_err-after-clause-err
 returns-in_err-after-clause-err g c =
     let p = err_from_is_err_and c.from_residual.result c.from_residual.ensures.1 in
-    rw (p.1, p.2) (λ rest. goes_refused c.args.quotes g.J.JobContract.taken g.J.JobContract.refused g.met.J.JobContract.refused_then rest c.loop-after.invariant.goes (c.in_err-after.ensures.err rest))
+    rw (p.1, p.2) (λ rest. goes_refused c.args.quotes g.J.JobContract.taken g.J.JobContract.refused
+    g.met.J.JobContract.refused_then rest c.loop-after.invariant.goes (c.in_err-after.ensures.err rest))
 
 pub returns-clause-ok : goal.returns-clause-ok
-returns-clause-ok g c = goes_settled c.args.quotes g.J.JobContract.taken g.met.J.JobContract.taken_then c.loop-after.invariant.goes (rw c.in_default.is at c.in_ok-after.ensures.none)
+returns-clause-ok g c =
+    goes_settled c.args.quotes g.J.JobContract.taken g.met.J.JobContract.taken_then c.loop-after.invariant.goes
+    (rw c.in_default.is at c.in_ok-after.ensures.none)

@@ -18,7 +18,9 @@ returns-in_err-write_all-clause-err g c =
     let full : end ≤ length block = omega (arith, c.fits-block, c.requires) in
     let is : take end block ≡ take (end - 1) block ++ get_or block (end - 1) 0 ∷ [] = last_left block end some full in
     let held : 0 < length (take end block) = omega (arith, length-take-le {A = ℕ} end block full, some) in
-    let part = subst (AppendsPart (g.W.Sink.taken c.args.out.now) (g.W.Sink.taken c.write_all.new.out)) (sym is) (beginning_longer (get_or block (end - 1) 0 ∷ []) c.in_err-write_all.ensures.part) in
+    let part =
+    subst (AppendsPart (g.W.Sink.taken c.args.out.now) (g.W.Sink.taken c.write_all.new.out)) (sym is)
+    (beginning_longer (get_or block (end - 1) 0 ∷ []) c.in_err-write_all.ensures.part) in
     rw p.1 (held, part, c.in_err-write_all.ensures.err)
 
 pub returns-clause-ok : goal.returns-clause-ok

@@ -15,7 +15,16 @@ pub returns-in_err-flush : goal.returns-in_err-flush
 returns-in_err-flush g c =
     let p = err_from_is_err_and c.from_residual-in_err-flush.result c.from_residual-in_err-flush.ensures.1 in
     let out = sink_use g.W.Sink.taken g.W.Sink.has_failed c.args.out.now c.flush.new.self in
-    rw (p.1, p.2) (writes_unflushed _ out (c.write_all.new.out, c.in_ok-write_all.ensures.written, c.in_ok-write_all.ensures.ok, c.in_err-flush.ensures.refused) c.in_err-flush.ensures.err)
+    rw (p.1, p.2) (writes_unflushed _ out (
+      c.write_all.new.out,
+      c.in_ok-write_all.ensures.written,
+      c.in_ok-write_all.ensures.ok,
+      c.in_err-flush.ensures.refused,
+    ) c.in_err-flush.ensures.err)
 
 pub returns : goal.returns
-returns g c = writes_whole _ _ (Appends-kept _ _ _ _ c.in_ok-write_all.ensures.written c.in_ok-flush.ensures.bytes, c.in_ok-flush.ensures.ok ∙ c.in_ok-write_all.ensures.ok)
+returns g c =
+    writes_whole _ _ (
+      Appends-kept _ _ _ _ c.in_ok-write_all.ensures.written c.in_ok-flush.ensures.bytes,
+      c.in_ok-flush.ensures.ok ∙ c.in_ok-write_all.ensures.ok,
+    )

@@ -11,15 +11,20 @@ use Rattle.h3_lines.proofs.Written.{push_written, writes_held}
 use Rattle.h3_lines.proofs.write.write_cells_lines.Goals as goal
 
 -- the lines of one cell more
-one_more : (text : Address → List ℕ) (cells : List Address) (i : ℕ) (x : Address) → i < length cells → x ≡ get_or cells i x → flat_map text (take (i + 1) cells) ≡ flat_map text (take i cells) ++ text x
+one_more : (text : Address → List ℕ) (cells : List Address) (i : ℕ) (x : Address) → i < length cells
+    → x ≡ get_or cells i x → flat_map text (take (i + 1) cells) ≡ flat_map text (take i cells) ++ text x
 one_more text cells i x lt is =
-    ap (flat_map text) (take_more cells i x lt ∙ ap (λ y. take i cells ++ y ∷ []) (sym is)) ∙ sym (flat_map_more text [] (take i cells) x)
+    ap (flat_map text) (take_more cells i x lt ∙ ap (λ y. take i cells ++ y ∷ []) (sym is))
+    ∙ sym (flat_map_more text [] (take i cells) x)
 
 -- the lines of all cells, about one of them
-about_one : (text : Address → List ℕ) (cells : List Address) (i : ℕ) (x : Address) → i < length cells → x ≡ get_or cells i x
+about_one : (text : Address → List ℕ) (cells : List Address) (i : ℕ) (x : Address) → i < length cells
+    → x ≡ get_or cells i x
     → flat_map text cells ≡ (flat_map text (take i cells) ++ text x) ++ flat_map text (drop (i + 1) cells)
 about_one text cells i x lt is =
-    ap (flat_map text) (sym (take-append-drop (i + 1) cells)) ∙ flat_map-append text (take (i + 1) cells) (drop (i + 1) cells) ∙ ap (λ l. l ++ flat_map text (drop (i + 1) cells)) (one_more text cells i x lt is)
+    ap (flat_map text) (sym (take-append-drop (i + 1) cells))
+    ∙ flat_map-append text (take (i + 1) cells) (drop (i + 1) cells)
+    ∙ ap (λ l. l ++ flat_map text (drop (i + 1) cells)) (one_more text cells i x lt is)
 
 pub loop-cell-init : goal.loop-cell-init
 loop-cell-init g c = record { moves = moves_none g.W.Sink.taken g.W.Sink.has_failed _ _; within = omega arith }
@@ -32,9 +37,13 @@ loop-cell-preserved g c =
     let lines : text c.cell-item.result ≡ flat_map g.F.Item.Line.line_of gives.all = ap (λ a. a.output) gives.is in
     let done = flat_map text (take c.loop-cell.cell-index cells) in
     record {
-      moves = subst (λ l. Moves g.W.Sink.taken g.W.Sink.has_failed l (take c.in_ok-end.end c.put_lines.new.block) c.args.out.now c.put_lines.new.out)
-          (ap (λ l. done ++ l) (sym lines) ∙ sym (one_more text cells c.loop-cell.cell-index c.cell-item.result c.loop-cell-test.true c.cell-item.is))
-          (moves_then g.W.Sink.taken g.W.Sink.has_failed done _ _ _ _ _ _ c.loop-cell.invariant.moves (c.in_ok-end.ensures.ok gives.all gives.yields));
+      moves =
+          subst (λ l. Moves g.W.Sink.taken g.W.Sink.has_failed l
+          (take c.in_ok-end.end c.put_lines.new.block) c.args.out.now c.put_lines.new.out)
+          (ap (λ l. done ++ l) (sym lines) ∙ sym
+          (one_more text cells c.loop-cell.cell-index c.cell-item.result c.loop-cell-test.true c.cell-item.is))
+          (moves_then g.W.Sink.taken g.W.Sink.has_failed done _ _ _ _ _ _ c.loop-cell.invariant.moves
+          (c.in_ok-end.ensures.ok gives.all gives.yields));
       within = c.in_ok-end.ensures.within;
     }
 
@@ -49,7 +58,9 @@ returns-in_err-end g c =
     let own = flat_map g.F.Item.Line.line_of gives.all in
     let later = flat_map text (drop (c.loop-cell.cell-index + 1) cells) in
     let p = err_from_is_err_and c.from_residual.result c.from_residual.ensures.1 in
-    let fails : FailsPush ((done ++ own) ++ later) out = push_more (done ++ own) later out (push_then g.W.Sink.taken g.W.Sink.has_failed done _ own _ _ _ c.loop-cell.invariant.moves (c.in_err-end.ensures.err gives.all gives.yields)) in
+    let fails : FailsPush ((done ++ own) ++ later) out =
+    push_more (done ++ own) later out (push_then g.W.Sink.taken g.W.Sink.has_failed done _ own _ _ _
+    c.loop-cell.invariant.moves (c.in_err-end.ensures.err gives.all gives.yields)) in
     let whole : (done ++ own) ++ later ≡ flat_map text cells =
     ap (λ l. (done ++ l) ++ later) (sym lines) ∙ sym (about_one text cells c.loop-cell.cell-index c.cell-item.result c.loop-cell-test.true c.cell-item.is) in
     rw (p.1, p.2) (push_written (flat_map text cells) out (subst (λ l. FailsPush l out) whole fails))
@@ -58,7 +69,10 @@ pub returns : goal.returns
 returns g c =
     let text = g.F.CellLines.text_of c.args.function.now in
     let cells = c.args.cells.now in
-    let all : take c.loop-cell.cell-index cells ≡ cells = take_all c.loop-cell.cell-index cells (omega (arith, c.loop-cell-test.false)) in
+    let all : take c.loop-cell.cell-index cells ≡ cells =
+    take_all c.loop-cell.cell-index cells (omega (arith, c.loop-cell-test.false)) in
     let left = take c.loop-cell.end c.loop-cell.block in
-    writes_held g.W.Sink.taken g.W.Sink.has_failed c.args.out.now c.loop-cell.out c.write_answer.new.out (flat_map text cells) left c.write_answer.result
-    (subst (λ l. Moves g.W.Sink.taken g.W.Sink.has_failed (flat_map text l) left c.args.out.now c.loop-cell.out) all c.loop-cell.invariant.moves) c.write_answer.ensures
+    writes_held g.W.Sink.taken g.W.Sink.has_failed c.args.out.now c.loop-cell.out c.write_answer.new.out
+    (flat_map text cells) left c.write_answer.result
+    (subst (λ l. Moves g.W.Sink.taken g.W.Sink.has_failed
+    (flat_map text l) left c.args.out.now c.loop-cell.out) all c.loop-cell.invariant.moves) c.write_answer.ensures

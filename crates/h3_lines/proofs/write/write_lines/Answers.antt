@@ -13,5 +13,6 @@ returns-in_err-end g c all e =
 
 pub returns : goal.returns
 returns g c all e =
-    writes_held g.W.Sink.taken g.W.Sink.has_failed c.args.out.now c.put_lines.new.out c.write_answer.new.out (flat_map g.L.Line.line_of all) (take c.in_ok-end.end c.put_lines.new.block) c.write_answer.result
+    writes_held g.W.Sink.taken g.W.Sink.has_failed c.args.out.now c.put_lines.new.out c.write_answer.new.out
+    (flat_map g.L.Line.line_of all) (take c.in_ok-end.end c.put_lines.new.block) c.write_answer.result
     (c.in_ok-end.ensures.ok all e) c.write_answer.ensures

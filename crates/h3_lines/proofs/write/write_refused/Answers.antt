@@ -9,7 +9,8 @@ use Rattle.h3_lines.proofs.write.write_refused.Goals as goal
 pub returns-in_err-write_answer : goal.returns-in_err-write_answer
 returns-in_err-write_answer g c =
     let p = err_from_is_err_and c.from_residual.result c.from_residual.ensures.1 in
-    rw (p.1, p.2) (fault_before _ _ _ _ (some_from_test _ _ c.is_empty.ensures c.if-not-is_empty.true) c.in_err-write_answer.ensures)
+    rw (p.1, p.2) (fault_before _ _ _ _
+    (some_from_test _ _ c.is_empty.ensures c.if-not-is_empty.true) c.in_err-write_answer.ensures)
 
 pub returns-in_ok-write_answer : goal.returns-in_ok-write_answer
 returns-in_ok-write_answer g c = then_refused _ _ _ _ c.in_ok-write_answer.ensures

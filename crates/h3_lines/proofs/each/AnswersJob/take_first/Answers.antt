@@ -17,4 +17,5 @@ returns-clause-none g c =
     v _ (answered_none g.W.Sink.taken g.W.Sink.has_failed _ _ _ _, refl, refl) c.take_plain.ensures.none
 
 pub returns-clause-err : goal.returns-clause-err
-returns-clause-err g c = IfErr-weaker c.take_plain.result _ _ (λ e refuses rest. refuses c.args._quotes rest) c.take_plain.ensures.err
+returns-clause-err g c =
+    IfErr-weaker c.take_plain.result _ _ (λ e refuses rest. refuses c.args._quotes rest) c.take_plain.ensures.err

@@ -7,8 +7,12 @@ pub returns-clause-err : goal.returns-clause-err
 returns-clause-err g c =
     let number = c.args.self.now.number in
     let same : number + 1 - 1 ≡ number = omega arith in
-    IfErr-weaker c.push_parsed.result _ _ (λ s refuses p parses later. rw same (refuses_said number p later c.cell_with.result _ (said_parsed p.0 c.args.index c.cell_with.result parses c.cell_with.ensures) (refuses number))) c.push_parsed.ensures.err
+    IfErr-weaker c.push_parsed.result _ _ (λ s refuses p parses later. rw same (refuses_said number p later
+    c.cell_with.result _ (said_parsed p.0 c.args.index c.cell_with.result parses c.cell_with.ensures)
+    (refuses number))) c.push_parsed.ensures.err
 
 pub returns-clause-ok : goal.returns-clause-ok
 returns-clause-ok g c =
-    ok_both c.push_parsed.result (λ said takes p parses. line_taken g.V.CellJob.taken c.args.self.now.number p c.cell_with.result (said_parsed p.0 c.args.index c.cell_with.result parses c.cell_with.ensures) said takes) c.push_parsed.ensures.said c.push_parsed.ensures.ok
+    ok_both c.push_parsed.result (λ said takes p parses. line_taken g.V.CellJob.taken c.args.self.now.number p
+    c.cell_with.result (said_parsed p.0 c.args.index c.cell_with.result parses c.cell_with.ensures)
+    said takes) c.push_parsed.ensures.said c.push_parsed.ensures.ok
