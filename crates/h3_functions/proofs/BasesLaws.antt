@@ -32,7 +32,8 @@ base_cells-some n h = let e : 122 - n ≡ suc (122 - (n + 1)) = omega arith in r
 base_cells-end : (n : ℕ) → 122 ≤ n → base_cells n ≡ []
 base_cells-end n h = let e : 122 - n ≡ 0 = omega arith in rw e refl
 
-pub base_cells-next : (n : ℕ) (r : Result Address H3Error) (c : Address) → IsBaseCell n r → result_ok r ≡ Some c → (n < 122) × (base_cells n ≡ c ∷ base_cells (n + 1))
+pub base_cells-next : (n : ℕ) (r : Result Address H3Error) (c : Address) → IsBaseCell n r → result_ok r ≡ Some c
+    → (n < 122) × (base_cells n ≡ c ∷ base_cells (n + 1))
 base_cells-next n r c is ok = by (cases_lt n 122)
   where
     by : (n < 122) ⊎ (122 ≤ n) → (n < 122) × (base_cells n ≡ c ∷ base_cells (n + 1))
@@ -67,19 +68,25 @@ twelve res = refl
 -- what `pentagon` returns for a resolution and a number
 abbrev pub IsNthPentagon : ℕ → ℕ → Result Address H3Error → Type 0
 IsNthPentagon res n r =
-    MatchOption (resolution_of (pos res)) (r ≡ Err ResDomain) (λ q. MatchOption (number_below 12 (pos n)) (r ≡ Err Domain) (λ k. slice_get (pentagons q) k ≡ result_ok r))
+    MatchOption (resolution_of (pos res)) (r ≡ Err ResDomain)
+    (λ q. MatchOption (number_below 12 (pos n)) (r ≡ Err Domain) (λ k. slice_get (pentagons q) k ≡ result_ok r))
 
-pub pentagons-next : (res n : ℕ) (r : Result Address H3Error) (c : Address) → res ≤ 15 → IsNthPentagon res n r → result_ok r ≡ Some c → (n < 12) × (drop n (pentagons res) ≡ c ∷ drop (n + 1) (pentagons res))
+pub pentagons-next : (res n : ℕ) (r : Result Address H3Error) (c : Address) → res ≤ 15 → IsNthPentagon res n r
+    → result_ok r ≡ Some c → (n < 12) × (drop n (pentagons res) ≡ c ∷ drop (n + 1) (pentagons res))
 pentagons-next res n r c low is ok = by (cases_lt n 12)
   where
     by : (n < 12) ⊎ (12 ≤ n) → (n < 12) × (drop n (pentagons res) ≡ c ∷ drop (n + 1) (pentagons res))
     by (inl h) =
         let found = rw (below-some 16 res (omega arith), below-some 12 n h) at is in
-        let next : suc n ≡ n + 1 = omega arith in
-        (h, subst (λ m. drop n (pentagons res) ≡ c ∷ drop m (pentagons res)) next (drop-some (pentagons res) n c (found ∙ ok)))
+        let next : suc n ≡ n + 1 = omega arith in (
+          h,
+          subst (λ m. drop n (pentagons res) ≡ c ∷ drop m (pentagons res)) next
+              (drop-some (pentagons res) n c (found ∙ ok)),
+        )
     by (inr h) = let refused = rw (below-some 16 res (omega arith), below-none 12 n h) at is in absurd (cc (sym (ap result_ok refused) ∙ ok))
 
-pub pentagons-done : (res n : ℕ) (r : Result Address H3Error) → res ≤ 15 → IsNthPentagon res n r → result_ok r ≡ None → drop n (pentagons res) ≡ []
+pub pentagons-done : (res n : ℕ) (r : Result Address H3Error) → res ≤ 15 → IsNthPentagon res n r → result_ok r ≡ None
+    → drop n (pentagons res) ≡ []
 pentagons-done res n r low is none = by (cases_lt n 12)
   where
     by : (n < 12) ⊎ (12 ≤ n) → drop n (pentagons res) ≡ []

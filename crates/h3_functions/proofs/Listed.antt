@@ -9,8 +9,11 @@ use Rattle.h3_functions.specs.Hierarchy.{unless}
 use Rattle.h3_functions.specs.Items.{Lists}
 
 -- an iterator that yields what it has left, or an error
-pub lists_first : {S A : Type 0} (rest : S → List A) (items : Result S H3Error) (error : Option H3Error) (all : List A) → result_err items ≡ error → IfOk items (λ s. rest s ≡ all)
+pub lists_first : {S A : Type 0} (rest : S → List A) (items : Result S H3Error) (error : Option H3Error) (all : List A)
+    → result_err items ≡ error → IfOk items (λ s. rest s ≡ all)
     → Lists (YieldsFirst rest) items (unless error all)
 lists_first rest (Ok s) error all refused left =
-    subst (λ e. Lists (YieldsFirst rest) (Ok s) (unless e all)) refused (YieldsList-from_first (λ x. x) rest all left).runs
-lists_first rest (Err e) error all refused left = subst (λ d. Lists (YieldsFirst rest) (Err e) (unless d all)) refused refl
+    subst (λ e. Lists (YieldsFirst rest) (Ok s) (unless e all)) refused
+    (YieldsList-from_first (λ x. x) rest all left).runs
+lists_first rest (Err e) error all refused left =
+    subst (λ d. Lists (YieldsFirst rest) (Err e) (unless d all)) refused refl

@@ -21,7 +21,8 @@ cell_to_parent index res =
 -- cell_to_center_child index r: the descendant whose further digits are 0, or the error
 abbrev pub cell_to_center_child : ℕ → ℤ → Result Address H3Error
 cell_to_center_child index res =
-    for_value (λ c. unless (descent_refusal (resolution c) res) (center_descendant c (unsigned_abs res))) (cell_from index)
+    for_value (λ c. unless (descent_refusal (resolution c) res) (center_descendant c (unsigned_abs res)))
+    (cell_from index)
 
 -- cell_to_last_child index r: the descendant whose further digits are 6, or the error
 abbrev pub cell_to_last_child : ℕ → ℤ → Result Address H3Error
@@ -36,14 +37,17 @@ cell_to_children index res =
 -- cell_to_children_size index r: their number, or the error
 abbrev pub cell_to_children_size : ℕ → ℤ → Result ℕ H3Error
 cell_to_children_size index res =
-    for_value (λ c. unless (descent_refusal (resolution c) res) (length (descendants c (unsigned_abs res)))) (cell_from index)
+    for_value (λ c. unless (descent_refusal (resolution c) res) (length (descendants c (unsigned_abs res))))
+    (cell_from index)
 
 -- cell_to_child_pos index r: the cell's position under its ancestor, or the error
 abbrev pub cell_to_child_pos : ℕ → ℤ → Result ℕ H3Error
 cell_to_child_pos index res =
-    for_value (λ c. unless (parent_refusal (resolution c) res) (position_under (ancestor_at c (unsigned_abs res)) c)) (cell_from index)
+    for_value (λ c. unless (parent_refusal (resolution c) res) (position_under (ancestor_at c (unsigned_abs res)) c))
+    (cell_from index)
 
 -- child_pos_to_cell n index r: the descendant at a position, or the error
 abbrev pub child_pos_to_cell : ℕ → ℕ → ℤ → Result Address H3Error
 child_pos_to_cell position index res =
-    for_value (λ c. unless (position_refusal c res position) (unwrap_or (slice_get (descendants c (unsigned_abs res)) position) c)) (cell_from index)
+    for_value (λ c. unless (position_refusal c res position)
+    (unwrap_or (slice_get (descendants c (unsigned_abs res)) position) c)) (cell_from index)

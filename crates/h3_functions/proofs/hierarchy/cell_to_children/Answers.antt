@@ -14,7 +14,8 @@ use Rattle.h3_functions.proofs.hierarchy.cell_to_children.Goals as goal
 
 -- the descendants of the cell with the index
 listed : (index : ℕ) (res read : ℤ) (cell : Address) → read ≡ res → Ok cell ≡ cell_from index
-    → unless (descent_refusal (resolution cell) read) (descendants cell (unsigned_abs read)) ≡ cell_to_children index res
+    → unless (descent_refusal (resolution cell) read) (descendants cell (unsigned_abs read))
+    ≡ cell_to_children index res
 listed index res read cell same is =
     ap (λ (z : ℤ). unless (descent_refusal (resolution cell) z) (descendants cell (unsigned_abs z))) same
     ∙ ap (for_value (λ c. unless (descent_refusal (resolution c) res) (descendants c (unsigned_abs res)))) is
@@ -22,5 +23,6 @@ listed index res read cell same is =
 pub returns : goal.returns
 returns c =
     let read : ℤ = to_z w32 (of_z w32 c.args.res) in
-    subst (Lists (YieldsFirst children_left) c.children.result) (listed c.args.index c.args.res read c.in_ok-cell.cell (to_z-of_z w32 c.args.res (search rules)) c.in_ok-cell.ensures)
+    subst (Lists (YieldsFirst children_left) c.children.result) (listed c.args.index c.args.res read c.in_ok-cell.cell
+    (to_z-of_z w32 c.args.res (search rules)) c.in_ok-cell.ensures)
     (lists_first children_left c.children.result _ _ c.children.ensures.refused c.children.ensures.list)
