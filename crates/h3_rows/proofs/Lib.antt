@@ -1,6 +1,7 @@
 pub mod Alike
 pub mod AreaFields
 pub mod AreaNames
+pub mod AreaRows
 pub mod Beside
 pub mod Blanks
 pub mod Blocks

@@ -38,18 +38,28 @@ is_not n b false is other digit = refl
 is_not n b true is other digit = let never : is_digit n 16 ≡ true = ap (λ m. is_digit m 16) (sym (eqb-true b n is)) ∙ digit in absurd (cc (never, other))
 
 no_blank : (b : ℕ) → is_digit b 16 ≡ true → is_blank b ≡ false
-no_blank b digit = rw (is_not 32 b (b == 32) refl refl digit, is_not 9 b (b == 9) refl refl digit, is_not 13 b (b == 13) refl refl digit) refl
+no_blank b digit =
+    rw (
+      is_not 32 b (b == 32) refl refl digit,
+      is_not 9 b (b == 9) refl refl digit,
+      is_not 13 b (b == 13) refl refl digit,
+    ) refl
 
 digit_first : (b : ℕ) (bs : List ℕ) → list_all (λ b. is_digit b 16) (b ∷ bs) ≡ true → is_digit b 16 ≡ true
-digit_first b bs h = All-get_or (λ b. is_digit b 16 ≡ true) (b ∷ bs) 0 0 (omega arith) (AllPass-from_list_all (λ b. is_digit b 16) (b ∷ bs) h)
+digit_first b bs h =
+    All-get_or (λ b. is_digit b 16 ≡ true) (b ∷ bs) 0 0 (omega arith)
+    (AllPass-from_list_all (λ b. is_digit b 16) (b ∷ bs) h)
 
 digits_trimmed : (field : List ℕ) → list_all (λ b. is_digit b 16) field ≡ true → trimmed field ≡ field
 digits_trimmed [] h = refl
 digits_trimmed (b ∷ bs) h =
     let whole = b ∷ bs in
-    let last : is_digit (get_or whole (length whole - 1) 0) 16 ≡ true = All-get_or (λ b. is_digit b 16 ≡ true) whole (length whole - 1) 0 (omega arith) (AllPass-from_list_all (λ b. is_digit b 16) whole h) in
+    let last : is_digit (get_or whole (length whole - 1) 0) 16 ≡ true =
+    All-get_or (λ b. is_digit b 16 ≡ true) whole (length whole - 1) 0 (omega arith)
+    (AllPass-from_list_all (λ b. is_digit b 16) whole h) in
     let front : without_leading_blanks whole ≡ whole = rw (no_blank b (digit_first b bs h)) refl in
-    ap without_trailing_blanks front ∙ sym (other_last whole (omega arith) (no_blank (get_or whole (length whole - 1) 0) last))
+    ap without_trailing_blanks front
+    ∙ sym (other_last whole (omega arith) (no_blank (get_or whole (length whole - 1) 0) last))
 
 not_both : (t u : Bool) (xs ys : List ℕ) → (if t && false && u then xs else ys) ≡ ys
 not_both true u xs ys = refl
@@ -57,9 +67,12 @@ not_both false u xs ys = refl
 
 digits_unquoted : (field : List ℕ) → list_all (λ b. is_digit b 16) field ≡ true → unquoted field ≡ field
 digits_unquoted [] h = refl
-digits_unquoted (b ∷ bs) h = rw (is_not 34 b (b == 34) refl refl (digit_first b bs h)) (not_both (nat_le 2 (length (b ∷ bs))) (get_or (b ∷ bs) (length (b ∷ bs) - 1) 0 == 34) _ (b ∷ bs))
+digits_unquoted (b ∷ bs) h =
+    rw (is_not 34 b (b == 34) refl refl (digit_first b bs h))
+    (not_both (nat_le 2 (length (b ∷ bs))) (get_or (b ∷ bs) (length (b ∷ bs) - 1) 0 == 34) _ (b ∷ bs))
 
-pub digits_text : (quotes : Bool) (field : List ℕ) → list_all (λ b. is_digit b 16) field ≡ true → field_text quotes field ≡ field
+pub digits_text : (quotes : Bool) (field : List ℕ) → list_all (λ b. is_digit b 16) field ≡ true
+    → field_text quotes field ≡ field
 digits_text true field h = ap unquoted (digits_trimmed field h) ∙ digits_unquoted field h
 digits_text false field h = digits_trimmed field h
 
@@ -73,7 +86,8 @@ quoted_text (b ∷ bs) two first last =
     let opens : (get_or whole 0 0 == 34) ≡ true = ap (λ n. n == 34) first in
     let closes : (get_or whole (length whole - 1) 0 == 34) ≡ true = ap (λ n. n == 34) last in
     let front : without_leading_blanks whole ≡ whole = rw first refl in
-    let trims : trimmed whole ≡ whole = ap without_trailing_blanks front ∙ sym (other_last whole (omega arith) (ap is_blank last)) in
+    let trims : trimmed whole ≡ whole =
+    ap without_trailing_blanks front ∙ sym (other_last whole (omega arith) (ap is_blank last)) in
     ap unquoted trims ∙ rw (long, opens, closes) refl
 
 pub some_from_test : (l : List ℕ) (b : Bool) → b ≡ (length l == 0) → b ≡ false → 0 < length l
@@ -102,10 +116,22 @@ module _ (form : Form) (answer : Option ℕ → Answer) (s : RowState) (k : Colu
         let short : nat_lt 1048575 (length row) ≡ false = grind (arith, nat_tests) in
         let less : length line ≤ 1114111 = omega (arith, row_length row n, p.few, few) in
         let small : nat_lt 1114111 (length line) ≡ false = grind (arith, nat_tests) in
-        rw (body, read, short, small, row_returnless form.quotes row p.whole.on_line, row_sound form.separator form.quotes row p.whole) refl
+        rw (
+          body,
+          read,
+          short,
+          small,
+          row_returnless form.quotes row p.whole.on_line,
+          row_sound form.separator form.quotes row p.whole,
+        ) refl
 
     said : (index : ℕ) → IsPlainField form.quotes field index → row_cell form s.number k row ≡ Ok (Index index)
-    said index plain = rw (read, p.as_wide, p.field_is) (ap text_cell plain.text_is ∙ sym (text_cell_parsed plain.text index plain.parses))
+    said index plain =
+        rw (
+          read,
+          p.as_wide,
+          p.field_is,
+        ) (ap text_cell plain.text_is ∙ sym (text_cell_parsed plain.text index plain.parses))
 
     steps : (index : ℕ) (text : List ℕ) → IsPlainField form.quotes field index → answer (Some index) ≡ written text
         → row_step form answer (state_of s held) (line, false)
@@ -116,11 +142,14 @@ module _ (form : Form) (answer : Option ℕ → Answer) (s : RowState) (k : Colu
         let bare : unmarked s.number line ≡ line = later_unmarked s.number line not_first in
         rw (known, sound, bare, body, filled, later_mark s.number row not_first, said index plain, is) refl
 
-    one_row : (text : List ℕ) (l : IsOneLine text) → inside_after form.quoted_answers false text ≡ false → answered_with form line text
+    one_row : (text : List ℕ) (l : IsOneLine text) → inside_after form.quoted_answers false text ≡ false
+        → answered_with form line text
         ≡ row ++ (form.separator ∷ (l.line ++ (replicate n 13 ++ 10 ∷ [])))
     one_row text l closed =
-        let within : inside_after form.quoted_answers false l.line ≡ false = closed_before form.quoted_answers l.line (rw l.split at closed) in
-        let whole : Uncut 10 form.quoted_answers false l.line false = record { uncut = feedless_uncut form.quoted_answers false l.line l.whole; inside_is = within } in
+        let within : inside_after form.quoted_answers false l.line ≡ false =
+        closed_before form.quoted_answers l.line (rw l.split at closed) in
+        let whole : Uncut 10 form.quoted_answers false l.line false =
+        record { uncut = feedless_uncut form.quoted_answers false l.line l.whole; inside_is = within } in
         let ends : returns_of line ≡ replicate n 13 = returns_of_row row n (row_bare row p.whole.on_line) in
         let with : row_with form.separator line (l.line ++ [])
         ≡ row ++ (form.separator ∷ (l.line ++ (replicate n 13 ++ 10 ∷ [])))
@@ -164,12 +193,15 @@ before_feed old bytes last within is =
     ∙ ap (λ n. take n (bytes ++ 10 ∷ [])) less ∙ take-append_seam bytes (10 ∷ [])
 
 -- what was held before the row is kept
-pub front_kept : (new old more : List ℕ) (end n : ℕ) → end ≤ length old → take n new ≡ take end old ++ more → take end new ≡ take end old
+pub front_kept : (new old more : List ℕ) (end n : ℕ) → end ≤ length old → take n new ≡ take end old ++ more
+    → take end new ≡ take end old
 front_kept new old more end n within is =
     let size : length (take end old) ≡ end = length-take-le end old within in
-    let whole : length (take n new) ≡ end + length more = ap length is ∙ omega (arith, length-append (take end old) more, size) in
+    let whole : length (take n new) ≡ end + length more =
+    ap length is ∙ omega (arith, length-append (take end old) more, size) in
     let fits : end ≤ n = omega (arith, whole, length-take {A = ℕ}) in
-    sym (take-take end n new fits) ∙ ap (take end) is ∙ take-append-le end (take end old) more (omega (arith, size)) ∙ take-take end end old (omega arith)
+    sym (take-take end n new fits) ∙ ap (take end) is ∙ take-append-le end (take end old) more (omega (arith, size))
+    ∙ take-take end end old (omega arith)
 
 -- what was put after so many bytes
 pub put_after : (old text all : List ℕ) (at : ℕ) → at ≤ length old → all ≡ take at old ++ text → drop at all ≡ text
@@ -180,15 +212,26 @@ put_after old text all at within is =
 -- ---- the rows that are taken
 
 module _ {S : Type 0} (taken : S → Option (List ℕ)) (failed : S → Bool) where
-  pub plain_answered : (form : Form) (answer : Option ℕ → Answer) (s a : RowState) (k : Columns) (bytes held held' : List ℕ) (size returns : ℕ) (sink : S) → s.columns ≡ Some k → a.number ≡ s.number + 1 → a.columns ≡ s.columns → a.kept ≡ s.kept
+  pub plain_answered : (form : Form) (answer : Option ℕ → Answer) (s a : RowState) (k : Columns)
+      (bytes held held' : List ℕ) (size returns : ℕ) (sink : S)
+      → s.columns ≡ Some k → a.number ≡ s.number + 1 → a.columns ≡ s.columns → a.kept ≡ s.kept
       → (p : PutsPlain form answer s bytes held held' size returns)
-      → Answered taken failed (λ last. rows_then last form answer) (state_of s held) (state_of a held') (held_of s.columns held) (held_of a.columns held') sink sink ((p.row, false) ∷ [])
+      → Answered taken failed (λ last. rows_then last form answer) (state_of s held) (state_of a held')
+      (held_of s.columns held) (held_of a.columns held') sink sink ((p.row, false) ∷ [])
   plain_answered form answer s a k bytes held held' size returns sink known n b kept p =
       let count : a.number ≡ next_number s.number p.row = n ∙ omega (arith, p.feedless) in
-      let step : row_step form answer (state_of s held) (p.row, false) ≡ record { answer = written p.text; after = state_of a held' } = p.is ∙ ap (λ w. record { answer = written p.text; after = w }) (passed_is s a k known p.row held held' count b kept) in
+      let step : row_step form answer (state_of s held) (
+        p.row,
+        false,
+      ) ≡ record { answer = written p.text; after = state_of a held' } =
+      p.is
+      ∙ ap (λ w. record { answer = written p.text; after = w })
+      (passed_is s a k known p.row held held' count b kept) in
       record {
         text = p.text;
-        says = λ last more. ap (λ (x : Step). then_answer x.answer.output x.answer.ending (rows_then last form answer x.after more)) step;
+        says =
+            λ last more. ap
+            (λ (x : Step). then_answer x.answer.output x.answer.ending (rows_then last form answer x.after more)) step;
         moves = record { part = []; split = rw (b, known) (sym p.put); grown = Appends-nil (taken sink); sound = refl };
       }
 
@@ -199,12 +242,17 @@ same_quotes false true h = absurd (cc)
 same_quotes false false h = refl
 
 -- a plain row ends at its line feed, whether quotes count or not
-pub plain_cuts : (form : Form) (answer : Option ℕ → Answer) (s : RowState) (bytes held held' : List ℕ) (size returns : ℕ) (quotes : Bool) → not (beq quotes form.quotes) ≡ false → (p : PutsPlain form answer s bytes held held' size returns) → CutsAt 10 quotes false bytes p.row p.after
+pub plain_cuts : (form : Form) (answer : Option ℕ → Answer) (s : RowState) (bytes held held' : List ℕ)
+    (size returns : ℕ) (quotes : Bool)
+    → not (beq quotes form.quotes) ≡ false → (p : PutsPlain form answer s bytes held held' size returns)
+    → CutsAt 10 quotes false bytes p.row p.after
 plain_cuts form answer s bytes held held' size returns quotes is p
     = record { begins = rw (same_quotes quotes form.quotes is) p.whole; split = p.split }
 
 -- the row that bytes begin with, and the others
-pub first_cut : (qs : Bool) (bytes row after : List ℕ) (size : ℕ) → CutsAt 10 qs false bytes row after → length row ≡ size → (rest : List ℕ) → pieces_of qs (bytes ++ rest) ≡ (row, false) ∷ pieces_of qs (drop (size + 1) bytes ++ rest)
+pub first_cut : (qs : Bool) (bytes row after : List ℕ) (size : ℕ) → CutsAt 10 qs false bytes row after
+    → length row ≡ size → (rest : List ℕ)
+    → pieces_of qs (bytes ++ rest) ≡ (row, false) ∷ pieces_of qs (drop (size + 1) bytes ++ rest)
 first_cut qs bytes row after size cuts is rest =
     let u = cuts.begins in
     let left : drop (size + 1) bytes ≡ after = rw (cuts.split, ← is) (drop-append-add row (10 ∷ after) 1) in

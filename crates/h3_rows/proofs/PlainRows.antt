@@ -14,22 +14,49 @@ use Rattle.h3_lines.specs.ScanLaws.{split_at}
 
 module _ (separator : ℕ) (quotes : Bool) (quote : (34 == separator) ≡ false) (feed : (10 == separator) ≡ false) (carriage : (13 == separator) ≡ false) where
   pub passes_none : (before : ℕ) (bytes : List ℕ) → PassesFields separator quotes before before bytes bytes
-  passes_none before bytes = record { front = []; split = refl; whole = whole_none separator quotes quote; passed = λ more. refl; counted = λ more. omega arith }
+  passes_none before bytes =
+      record {
+        front = [];
+        split = refl;
+        whole = whole_none separator quotes quote;
+        passed = λ more. refl;
+        counted = λ more. omega arith;
+      }
 
   -- a field is passed over
-  pub passes_more : (before left : ℕ) (bytes rest field after : List ℕ) → 0 < left → PassesFields separator quotes before left bytes rest → rest ≡ field ++ separator ∷ after
+  pub passes_more : (before left : ℕ) (bytes rest field after : List ℕ) → 0 < left
+      → PassesFields separator quotes before left bytes rest → rest ≡ field ++ separator ∷ after
       → IsWhole separator quotes field → PassesFields separator quotes before (left - 1) bytes after
   passes_more before left bytes rest field after some p split whole =
       let mark = separator ∷ [] in
-      let joined : (more : List ℕ) → (p.front ++ (field ++ mark)) ++ more ≡ p.front ++ (field ++ separator ∷ more) = λ more. append_assoc p.front (field ++ mark) more ∙ ap (λ l. p.front ++ l) (append_assoc field mark more) in
-      let one : (more : List ℕ) → length (cut separator quotes false (field ++ separator ∷ more)) ≡ suc (length (cut separator quotes false more)) = λ more. ap length (cuts_first separator quotes (field ++ separator ∷ more) field more (record { begins = whole.uncut; split = refl })) in
+      let joined : (more : List ℕ) → (p.front ++ (field ++ mark)) ++ more ≡ p.front ++ (field ++ separator ∷ more) =
+      λ more. append_assoc p.front (field ++ mark) more ∙ ap (λ l. p.front ++ l) (append_assoc field mark more) in
+      let one : (more : List ℕ)
+      → length (cut separator quotes false (field ++ separator ∷ more))
+      ≡ suc (length (cut separator quotes false more)) =
+      λ more. ap length (cuts_first separator quotes (field ++ separator ∷ more) field more
+      (record { begins = whole.uncut; split = refl })) in
       record {
         front = p.front ++ (field ++ mark);
-        split = p.split ∙ ap (λ l. p.front ++ l) (split ∙ sym (append_assoc field mark after)) ∙ sym (append_assoc p.front (field ++ mark) after);
-        whole = whole_append separator quotes quote p.front (field ++ mark) p.whole (whole_marked separator quotes quote feed carriage field whole);
-        passed = λ more. ap (λ l. piece_at before (cut separator quotes false l)) (joined more) ∙ p.passed (field ++ separator ∷ more)
-            ∙ field_passed separator quotes (field ++ separator ∷ more) field more left some (record { begins = whole.uncut; split = refl });
-        counted = λ more. omega (arith, ap (λ l. length (cut separator quotes false l)) (joined more), p.counted (field ++ separator ∷ more), one more, some);
+        split =
+            p.split ∙ ap (λ l. p.front ++ l) (split ∙ sym (append_assoc field mark after))
+            ∙ sym (append_assoc p.front (field ++ mark) after);
+        whole =
+            whole_append separator quotes quote p.front (field ++ mark) p.whole
+            (whole_marked separator quotes quote feed carriage field whole);
+        passed =
+            λ more. ap (λ l. piece_at before (cut separator quotes false l)) (joined more)
+            ∙ p.passed (field ++ separator ∷ more)
+            ∙ field_passed separator quotes (field ++ separator ∷ more) field more left some
+            (record { begins = whole.uncut; split = refl });
+        counted =
+            λ more. omega (
+              arith,
+              ap (λ l. length (cut separator quotes false l)) (joined more),
+              p.counted (field ++ separator ∷ more),
+              one more,
+              some,
+            );
       }
 
   -- fields are passed over after others
@@ -92,7 +119,8 @@ module _ (separator : ℕ) (quotes : Bool) (quote : (34 == separator) ≡ false)
   same_is n = grind (arith, nat_tests)
 
   -- a row is as wide as it should be, if it should be so wide, and if any width will do
-  pub wide_is : (columns : Columns) (width n : ℕ) → columns.width ≡ Some width → n ≡ width → is_as_wide columns.width n ≡ true
+  pub wide_is : (columns : Columns) (width n : ℕ) → columns.width ≡ Some width → n ≡ width
+      → is_as_wide columns.width n ≡ true
   wide_is columns width n is same = rw (is, same) (same_is width)
 
   one_field : (field : List ℕ) → IsWhole separator quotes field → length (cut separator quotes false field) ≡ 1
@@ -115,28 +143,43 @@ module _ (separator : ℕ) (quotes : Bool) (quote : (34 == separator) ≡ false)
       let front = take end rest ++ separator ∷ [] in
       let after = drop (end + 1) rest in
       let long : length (take end rest) ≡ end = length-take-le end rest (omega (arith, inside)) in
-      let size : length front + more ≡ end + 1 + more = omega (arith, length-append (take end rest) (separator ∷ []), long) in
-      let split : rest ≡ front ++ after = split_at rest end separator inside mark ∙ sym (append_assoc (take end rest) (separator ∷ []) after) in
-      ap (λ n. take n rest) (sym size) ∙ ap (take (length front + more)) split ∙ take-append-add front after more ∙ append_assoc (take end rest) (separator ∷ []) (take more after)
+      let size : length front + more ≡ end + 1 + more =
+      omega (arith, length-append (take end rest) (separator ∷ []), long) in
+      let split : rest ≡ front ++ after =
+      split_at rest end separator inside mark ∙ sym (append_assoc (take end rest) (separator ∷ []) after) in
+      ap (λ n. take n rest) (sym size) ∙ ap (take (length front + more)) split ∙ take-append-add front after more
+      ∙ append_assoc (take end rest) (separator ∷ []) (take more after)
 
   -- the row ends after its cell's field and other bytes
   ends_with : (columns : Columns) (rest : List ℕ) (end more : ℕ) → end < length rest → get_or rest end 0 ≡ separator
       → more < length (drop (end + 1) rest) → IsWhole separator quotes (take end rest)
       → IsWholeRow separator quotes (take more (drop (end + 1) rest))
-      → is_as_wide columns.width (columns.before + suc (length (cut separator quotes false (take more (drop (end + 1) rest))))) ≡ true
+      → is_as_wide columns.width
+      (columns.before + suc (length (cut separator quotes false (take more (drop (end + 1) rest)))))
+      ≡ true
       → EndsPlain separator quotes columns rest end (end + 1 + more)
   ends_with columns rest end more inside mark within whole row wide =
       let field = take end rest in
       let tail = take more (drop (end + 1) rest) in
       let is = first_part rest end more inside mark in
-      let joined : field ++ separator ∷ tail ≡ (field ++ separator ∷ []) ++ tail = sym (append_assoc field (separator ∷ []) tail) in
-      let cuts : CutsAt separator quotes false (field ++ separator ∷ tail) field tail = record { begins = whole.uncut; split = refl } in
-      let count : length (cut separator quotes false (field ++ separator ∷ tail)) ≡ suc (length (cut separator quotes false tail)) = ap length (cuts_first separator quotes (field ++ separator ∷ tail) field tail cuts) in
+      let joined : field ++ separator ∷ tail ≡ (field ++ separator ∷ []) ++ tail =
+      sym (append_assoc field (separator ∷ []) tail) in
+      let cuts : CutsAt separator quotes false (field ++ separator ∷ tail) field tail =
+      record { begins = whole.uncut; split = refl } in
+      let count : length (cut separator quotes false (field ++ separator ∷ tail))
+      ≡ suc (length (cut separator quotes false tail)) =
+      ap length (cuts_first separator quotes (field ++ separator ∷ tail) field tail cuts) in
       record {
         within = omega (arith, within, length-drop {A = ℕ});
-        whole = subst (IsWholeRow separator quotes) (sym (is ∙ joined)) (whole_then separator quotes quote (field ++ separator ∷ []) tail (whole_marked separator quotes quote feed carriage field whole) row);
-        field_is = ap (λ l. piece_at 0 (cut separator quotes false l)) is ∙ field_here separator quotes (field ++ separator ∷ tail) field tail 0 refl cuts;
-        as_wide = ap (λ l. is_as_wide columns.width (columns.before + length (cut separator quotes false l))) is ∙ ap (λ n. is_as_wide columns.width (columns.before + n)) count ∙ wide;
+        whole =
+            subst (IsWholeRow separator quotes) (sym (is ∙ joined)) (whole_then separator quotes quote
+            (field ++ separator ∷ []) tail (whole_marked separator quotes quote feed carriage field whole) row);
+        field_is =
+            ap (λ l. piece_at 0 (cut separator quotes false l)) is
+            ∙ field_here separator quotes (field ++ separator ∷ tail) field tail 0 refl cuts;
+        as_wide =
+            ap (λ l. is_as_wide columns.width (columns.before + length (cut separator quotes false l))) is
+            ∙ ap (λ n. is_as_wide columns.width (columns.before + n)) count ∙ wide;
       }
 
   -- the row ends after any number of fields
@@ -158,26 +201,35 @@ module _ (separator : ℕ) (quotes : Bool) (quote : (34 == separator) ≡ false)
       let after = drop (end + 1) rest in
       let long : length after ≡ length p.front + length tail = ap length p.split ∙ length-append p.front tail in
       let size : length after ≡ length rest - (end + 1) = length-drop (end + 1) rest in
-      let place : end + 1 + (length p.front + last) ≡ length rest - length tail + last = omega (arith, long, size, inside) in
-      let row : take (length p.front + last) after ≡ p.front ++ take last tail = ap (take (length p.front + last)) p.split ∙ take-append-add p.front tail last in
+      let place : end + 1 + (length p.front + last) ≡ length rest - length tail + last =
+      omega (arith, long, size, inside) in
+      let row : take (length p.front + last) after ≡ p.front ++ take last tail =
+      ap (take (length p.front + last)) p.split ∙ take-append-add p.front tail last in
       let all : suc (length (cut separator quotes false (take (length p.front + last) after))) ≡ suc more
       = omega (arith, ap (λ l. length (cut separator quotes false l)) row, p.counted (take last tail), one_field (take last tail) whole, some) in
-      let wide : is_as_wide columns.width (columns.before + suc more) ≡ true = wide_is columns width (columns.before + suc more) is (omega (arith, count)) in
+      let wide : is_as_wide columns.width (columns.before + suc more) ≡ true =
+      wide_is columns width (columns.before + suc more) is (omega (arith, count)) in
       subst (EndsPlain separator quotes columns rest end) place
       (ends_with columns rest end (length p.front + last) inside mark (omega (arith, long, within)) field
-      (subst (IsWholeRow separator quotes) (sym row) (whole_then separator quotes quote p.front (take last tail) p.whole (whole_row separator quotes quote (take last tail) whole)))
+      (subst (IsWholeRow separator quotes) (sym row) (whole_then separator quotes quote p.front (take last tail) p.whole
+      (whole_row separator quotes quote (take last tail) whole)))
       (ap (λ n. is_as_wide columns.width (columns.before + n)) all ∙ wide))
 
   -- the row that bytes begin with
   pub plain_row : (columns : Columns) (bytes rest : List ℕ) (end last returns : ℕ)
       → PassesFields separator quotes columns.before 0 bytes rest → EndsPlain separator quotes columns rest end last
       → drop last rest ≡ replicate returns 13 ++ 10 ∷ drop (last + returns + 1) rest → returns ≤ 1
-      → IsPlainRow separator quotes columns bytes (take (length bytes - length rest + last) bytes) returns (take end rest)
+      → IsPlainRow separator quotes columns bytes (take (length bytes - length rest + last) bytes) returns
+      (take end rest)
   plain_row columns bytes rest end last returns p e ended few =
       let long : length bytes ≡ length p.front + length rest = ap length p.split ∙ length-append p.front rest in
       let count : length bytes - length rest + last ≡ length p.front + last = omega (arith, long) in
-      let parts : take (length bytes - length rest + last) bytes ≡ p.front ++ take last rest = ap (λ n. take n bytes) count ∙ ap (take (length p.front + last)) p.split ∙ take-append-add p.front rest last in
-      let width : length (cut separator quotes false (p.front ++ take last rest)) ≡ columns.before + length (cut separator quotes false (take last rest)) = omega (arith, p.counted (take last rest)) in
+      let parts : take (length bytes - length rest + last) bytes ≡ p.front ++ take last rest =
+      ap (λ n. take n bytes) count ∙ ap (take (length p.front + last)) p.split
+      ∙ take-append-add p.front rest last in
+      let width : length (cut separator quotes false (p.front ++ take last rest))
+      ≡ columns.before + length (cut separator quotes false (take last rest)) =
+      omega (arith, p.counted (take last rest)) in
       let later = drop (last + returns + 1) rest in
       let whole : rest ≡ take last rest ++ (replicate returns 13 ++ 10 ∷ later) = sym (take-append-drop last rest)
       ∙ ap (λ l. take last rest ++ l) ended in

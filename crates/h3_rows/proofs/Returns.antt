@@ -67,14 +67,16 @@ not_alone xs ys other = list_all-append (λ b. b == 13) xs ys ∙ rw other refl
 last_other : (xs : List ℕ) (b : ℕ) → (b == 13) ≡ false → row_body (xs ++ b ∷ []) ≡ xs ++ b ∷ []
 last_other [] b other = rw other refl
 last_other (x ∷ xs) b other =
-    let mixed : are_returns (x ∷ (xs ++ b ∷ [])) ≡ false = list_all-append (λ b. b == 13) (x ∷ xs) (b ∷ []) ∙ rw other (and_false (are_returns (x ∷ xs))) in
+    let mixed : are_returns (x ∷ (xs ++ b ∷ [])) ≡ false =
+    list_all-append (λ b. b == 13) (x ∷ xs) (b ∷ []) ∙ rw other (and_false (are_returns (x ∷ xs))) in
     other_first x (xs ++ b ∷ []) mixed ∙ ap (λ l. x ∷ l) (last_other xs b other)
 
 -- one more carriage return at the end
 last_return : (xs : List ℕ) → row_body (xs ++ 13 ∷ []) ≡ row_body xs
 last_return [] = refl
 last_return (x ∷ xs) =
-    let same : are_returns (x ∷ (xs ++ 13 ∷ [])) ≡ are_returns (x ∷ xs) = list_all-append (λ b. b == 13) (x ∷ xs) (13 ∷ []) ∙ and_true (are_returns (x ∷ xs)) in
+    let same : are_returns (x ∷ (xs ++ 13 ∷ [])) ≡ are_returns (x ∷ xs) =
+    list_all-append (λ b. b == 13) (x ∷ xs) (13 ∷ []) ∙ and_true (are_returns (x ∷ xs)) in
     rw same (ap (λ l. if are_returns (x ∷ xs) then [] else x ∷ l) (last_return xs))
 
 -- the last byte of a row
@@ -82,15 +84,20 @@ by_last : (rest : List ℕ) → 1 ≤ length rest → rest ≡ take (length rest
 by_last rest some =
     let last = length rest - 1 in
     let count : last + 1 ≡ length rest = omega arith in
-    sym (take_all (length rest) rest (omega arith)) ∙ ap (λ n. take n rest) (sym count) ∙ take_more rest last 0 (omega arith)
+    sym (take_all (length rest) rest (omega arith)) ∙ ap (λ n. take n rest) (sym count)
+    ∙ take_more rest last 0 (omega arith)
 
-pub return_dropped : (rest : List ℕ) → 1 ≤ length rest → get_or rest (length rest - 1) 0 ≡ 13 → row_body (take (length rest - 1) rest) ≡ row_body rest
+pub return_dropped : (rest : List ℕ) → 1 ≤ length rest → get_or rest (length rest - 1) 0 ≡ 13
+    → row_body (take (length rest - 1) rest) ≡ row_body rest
 return_dropped rest some is =
-    sym (last_return (take (length rest - 1) rest)) ∙ ap (λ b. row_body (take (length rest - 1) rest ++ b ∷ [])) (sym is) ∙ ap row_body (sym (by_last rest some))
+    sym (last_return (take (length rest - 1) rest))
+    ∙ ap (λ b. row_body (take (length rest - 1) rest ++ b ∷ [])) (sym is) ∙ ap row_body (sym (by_last rest some))
 
-pub other_kept : (rest : List ℕ) → 1 ≤ length rest → (get_or rest (length rest - 1) 0 == 13) ≡ false → row_body rest ≡ rest
+pub other_kept : (rest : List ℕ) → 1 ≤ length rest → (get_or rest (length rest - 1) 0 == 13) ≡ false
+    → row_body rest ≡ rest
 other_kept rest some other =
-    ap row_body (by_last rest some) ∙ last_other (take (length rest - 1) rest) (get_or rest (length rest - 1) 0) other ∙ sym (by_last rest some)
+    ap row_body (by_last rest some) ∙ last_other (take (length rest - 1) rest) (get_or rest (length rest - 1) 0) other
+    ∙ sym (by_last rest some)
 
 pub other_byte : (b : ℕ) → (b ≡ 13 → ⊥) → (b == 13) ≡ false
 other_byte b other = grind (arith, nat_tests)
@@ -114,7 +121,8 @@ body_again (b ∷ bs) =
     λ t. elim t as (λ t. are_returns (b ∷ bs) ≡ t → row_body (if t then [] else b ∷ row_body bs) ≡ (if t then [] else b ∷ row_body bs)) [
       | true ↦ λ is. refl
       | false ↦ λ is. (
-          let mixed : are_returns (b ∷ row_body bs) ≡ false = ap are_returns (sym (other_first b bs is)) ∙ body_not_alone (b ∷ bs) is in
+          let mixed : are_returns (b ∷ row_body bs) ≡ false =
+          ap are_returns (sym (other_first b bs is)) ∙ body_not_alone (b ∷ bs) is in
           other_first b (row_body bs) mixed ∙ ap (λ l. b ∷ l) (body_again bs))
     ] in
     go (are_returns (b ∷ bs)) refl
@@ -137,9 +145,11 @@ body_of_row [] n bare = returns_body (replicate n 13) (many_returns n)
 body_of_row (x ∷ xs) n bare =
     let mixed = bare_mixed x xs bare in
     let rest : row_body xs ≡ xs = tail_of x x (row_body xs) xs (sym (other_first x xs mixed) ∙ bare) in
-    other_first x (xs ++ replicate n 13) (not_alone (x ∷ xs) (replicate n 13) mixed) ∙ ap (λ l. x ∷ l) (body_of_row xs n rest)
+    other_first x (xs ++ replicate n 13) (not_alone (x ∷ xs) (replicate n 13) mixed)
+    ∙ ap (λ l. x ∷ l) (body_of_row xs n rest)
 
-pub returns_of_row : (body : List ℕ) (n : ℕ) → row_body body ≡ body → returns_of (body ++ replicate n 13) ≡ replicate n 13
+pub returns_of_row : (body : List ℕ) (n : ℕ) → row_body body ≡ body
+    → returns_of (body ++ replicate n 13) ≡ replicate n 13
 returns_of_row [] n bare = returns_all (replicate n 13) (many_returns n)
 returns_of_row (x ∷ xs) n bare =
     let mixed = bare_mixed x xs bare in
@@ -150,8 +160,10 @@ returns_of_row (x ∷ xs) n bare =
 pub line_again : (line : List ℕ) → row_body line ++ replicate (length line - length (row_body line)) 13 ≡ line
 line_again line =
     let whole = body_then_returns line in
-    let size : length (returns_of line) ≡ length line - length (row_body line) = omega (arith, ap length whole, length-append (row_body line) (returns_of line)) in
-    ap (λ n. row_body line ++ replicate n 13) (sym size) ∙ ap (λ l. row_body line ++ l) (sym (all_returns (returns_of line) (returns_are line))) ∙ whole
+    let size : length (returns_of line) ≡ length line - length (row_body line) =
+    omega (arith, ap length whole, length-append (row_body line) (returns_of line)) in
+    ap (λ n. row_body line ++ replicate n 13) (sym size)
+    ∙ ap (λ l. row_body line ++ l) (sym (all_returns (returns_of line) (returns_are line))) ∙ whole
 
 pub body_shorter : (line : List ℕ) → length (row_body line) ≤ length line
 body_shorter line = omega (arith, ap length (body_then_returns line), length-append (row_body line) (returns_of line))

@@ -32,10 +32,12 @@ abbrev pub listed : {A : Type 0} → Option A → List A
 listed None = []
 listed (Some value) = value ∷ []
 
--- what a name in two parts may end in: nothing, or bytes that do not begin with a blank and end in neither a blank nor a quote
+-- what a name in two parts may end in: nothing, or bytes that do not begin with a blank and end in neither a blank nor
+-- a quote
 abbrev pub is_tail : List ℕ → Bool
 is_tail [] = true
-is_tail (b ∷ bs) = not (is_blank b) && (not (is_blank (get_or (b ∷ bs) (length bs) 0)) && not (get_or (b ∷ bs) (length bs) 0 == 34))
+is_tail (b ∷ bs) =
+    not (is_blank b) && (not (is_blank (get_or (b ∷ bs) (length bs) 0)) && not (get_or (b ∷ bs) (length bs) 0 == 34))
 
 -- ---- the bytes in the block: before a header the empty rows, and after it answers that are held back
 
@@ -49,7 +51,8 @@ held_of (Some k) bytes = bytes
 
 -- the state, with these bytes in the block
 abbrev pub state_of : RowState → List ℕ → State
-state_of s bytes = record { number = s.number; columns = s.columns; pending = pending_of s.columns bytes; kept = s.kept }
+state_of s bytes =
+    record { number = s.number; columns = s.columns; pending = pending_of s.columns bytes; kept = s.kept }
 
 -- ---- rows that are answered
 
@@ -65,7 +68,8 @@ pub record StepsTo {S : Type 0} (taken : S → Option (List ℕ)) (failed : S �
 
 -- a row ends the answer so, or a write fails, whatever comes after the row
 abbrev pub StepEnds : Step → List ℕ → RunError → SinkUse → Type 0
-StepEnds step held e out = (next : Answer) → EndsBy (before held (then_answer step.answer.output step.answer.ending next)) e out
+StepEnds step held e out =
+    (next : Answer) → EndsBy (before held (then_answer step.answer.output step.answer.ending next)) e out
 
 -- the bytes begin with a row of so many bytes that has no line feed, which ends in so many carriage returns, and its
 -- answer, bytes alone, is put after what is held back

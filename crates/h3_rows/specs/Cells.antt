@@ -48,7 +48,8 @@ pub record Found : Type 0 where
   pub cells : Result (List Address) AnswerError
   pub columns : Option Columns
 
--- header_found columns: the columns that a header says, which has no cell of the list; or its error, which ends the list
+-- header_found columns: the columns that a header says, which has no cell of the list; or its error, which ends the
+-- list
 abbrev pub header_found : Result Columns ColumnError → Found
 header_found (Ok columns) = record { cells = Ok []; columns = Some columns }
 header_found (Err e) = record { cells = Err (ending_by.Column e); columns = None }
@@ -56,12 +57,16 @@ header_found (Err e) = record { cells = Err (ending_by.Column e); columns = None
 -- filled_found form n line columns: what a row that is not empty has
 abbrev pub filled_found : Form → ℕ → List ℕ → Option Columns → Found
 filled_found form n line None = header_found (columns_in form (read_of n (row_body line)))
-filled_found form n line (Some columns) = record { cells = at_row n (cell_read (row_cell form n columns (row_body line))); columns = Some columns }
+filled_found form n line (Some columns) =
+    record { cells = at_row n (cell_read (row_cell form n columns (row_body line))); columns = Some columns }
 
 -- found_unless fault form n columns line: what a row has that is malformed for this reason, or is not
 abbrev pub found_unless : Option RowFault → Form → ℕ → Option Columns → List ℕ → Found
-found_unless (Some fault) form n columns line = record { cells = Err (ending_by.AtRow n (row_error.Bad fault)); columns = columns }
-found_unless None form n columns line = if is_empty_row n (row_body line) then record { cells = Ok []; columns = columns } else filled_found form n line columns
+found_unless (Some fault) form n columns line =
+    record { cells = Err (ending_by.AtRow n (row_error.Bad fault)); columns = columns }
+found_unless None form n columns line =
+    if is_empty_row n (row_body line) then record { cells = Ok []; columns = columns }
+    else filled_found form n line columns
 
 -- row_found form n columns p: what the row with this number has
 abbrev pub row_found : Form → ℕ → Option Columns → Piece → Found
@@ -70,14 +75,18 @@ row_found form n columns p = found_unless (malformed form n p) form n columns p.
 -- ---- the cells of rows
 
 -- found_before found later: what a row has, before what the rows after it have; the first error decides
-abbrev pub found_before : Result (List Address) AnswerError → Result (List Address) AnswerError → Result (List Address) AnswerError
+abbrev pub found_before : Result (List Address) AnswerError → Result (List Address) AnswerError
+    → Result (List Address) AnswerError
 found_before (Ok cells) later = cells_before cells later
 found_before (Err e) later = Err e
 
 -- cells_then last form n columns rows: the cells of rows, of which the first has the number n, and then what is last
-abbrev pub cells_then : (Option Columns → Result (List Address) AnswerError) → Form → ℕ → Option Columns → List Piece → Result (List Address) AnswerError
+abbrev pub cells_then : (Option Columns → Result (List Address) AnswerError) → Form → ℕ → Option Columns → List Piece
+    → Result (List Address) AnswerError
 cells_then last form n columns [] = last columns
-cells_then last form n columns (p ∷ ps) = found_before (row_found form n columns p).cells (cells_then last form (next_number n p.0) (row_found form n columns p).columns ps)
+cells_then last form n columns (p ∷ ps) =
+    found_before (row_found form n columns p).cells
+    (cells_then last form (next_number n p.0) (row_found form n columns p).columns ps)
 
 -- cells_end choice columns: at the end of a list a column that has a name is missed if the header did not come
 abbrev pub cells_end : Choice → Option Columns → Result (List Address) AnswerError
@@ -85,8 +94,8 @@ cells_end choice (Some columns) = Ok []
 cells_end (After k) None = Ok []
 cells_end (Named name) None = Err (ending_by.Column NotFound)
 
--- cells_of form rows: the cells of the rows of a list; a row without a cell is left out. Or the error of the first row that
--- has one; or else, if a column is awaited by its name and no header comes, that it is not found
+-- cells_of form rows: the cells of the rows of a list; a row without a cell is left out. Or the error of the first row
+-- that has one; or else, if a column is awaited by its name and no header comes, that it is not found
 abbrev pub cells_of : Form → List Piece → Result (List Address) AnswerError
 cells_of form rows = cells_then (cells_end form.choice) form 1 (columns_first form.has_header form.choice) rows
 
@@ -97,7 +106,8 @@ begun_cells form rows = cells_then (λ columns. Ok []) form 1 (columns_first for
 
 -- ---- how it ends
 
--- AllRowsRead: all bytes of a list are read, in reads that may be made, and these are the cells of its rows, or its error
+-- AllRowsRead: all bytes of a list are read, in reads that may be made, and these are the cells of its rows, or its
+-- error
 pub record AllRowsRead (form : Form) (cells : Result (List Address) AnswerError) (old new : Option (List ℕ)) : Type 0 where
   pub list : List ℕ
   pub held : HasLeft old list
@@ -105,8 +115,8 @@ pub record AllRowsRead (form : Form) (cells : Result (List Address) AnswerError)
   pub within : IsWithinReads (2 ^ 40) 65536 list
   pub is : cells_of form (rows_of form.quotes list) ≡ cells
 
--- RowsReadTo: a part of a list is read, and then at most so many bytes more, in reads that may be made; the rows that end
--- in the part have no error, and the one that does not has at most 1,114,111 bytes in it
+-- RowsReadTo: a part of a list is read, and then at most so many bytes more, in reads that may be made; the rows that
+-- end in the part have no error, and the one that does not has at most 1,114,111 bytes in it
 pub record RowsReadTo (form : Form) (most : ℕ) (old new : Option (List ℕ)) : Type 0 where
   pub part : List ℕ
   pub last : List ℕ
@@ -128,8 +138,8 @@ pub record RefusesRowsAtEnd (form : Form) (e : AnswerError) (old new : Option (L
   pub cells : List Address
   pub good : begun_cells form (rows_of form.quotes read.list) ≡ Ok cells
 
--- RefusesRowsInPage form e: a row of a list has this error, and at most a page is read beyond rows without one; the list
--- ends within the reads that may be made, or each that begins with what is read has the error
+-- RefusesRowsInPage form e: a row of a list has this error, and at most a page is read beyond rows without one; the
+-- list ends within the reads that may be made, or each that begins with what is read has the error
 pub record RefusesRowsInPage (form : Form) (e : AnswerError) (old new : Option (List ℕ)) : Type 0 where
   pub stop : RowsReadTo form 65536 old new
   pub is : cells_of form (rows_of form.quotes (stop.part ++ stop.last ++ stop.rest)) ≡ Err e
@@ -143,5 +153,6 @@ abbrev pub RefusesRows : Form → Option (List ℕ) → Option (List ℕ) → Bo
 RefusesRows form old new had has (Error e) =
     (has ≡ had) × (RefusesRowsAtEnd form e old new ⊎ RefusesRowsInPage form e old new)
 RefusesRows form old new had has (Fault Memory) = (has ≡ had) × RowsReadTo form 65536 old new
-RefusesRows form old new had has (Fault Read) = (stop : RowsReadTo form 0 old new) × ((has ≡ true) ⊎ (2 ^ 40 ≤ length (stop.part ++ stop.last ++ stop.rest)))
+RefusesRows form old new had has (Fault Read) =
+    (stop : RowsReadTo form 0 old new) × ((has ≡ true) ⊎ (2 ^ 40 ≤ length (stop.part ++ stop.last ++ stop.rest)))
 RefusesRows form old new had has (Fault Write) = ⊥

@@ -10,5 +10,6 @@ use Rattle.h3_rows.specs.declared.state.Columns.{Columns}
 use Rattle.h3_rows.specs.declared.state.RowState.{RowState}
 
 -- the cells of rows by these options, in this state, and then what is last
-abbrev pub cells_in : (Option Columns → Result (List Address) AnswerError) → RowOptions × RowState → List Piece → Result (List Address) AnswerError
+abbrev pub cells_in : (Option Columns → Result (List Address) AnswerError) → RowOptions × RowState → List Piece
+    → Result (List Address) AnswerError
 cells_in last v rows = cells_then last (form_of v.0 []) v.1.number v.1.columns rows

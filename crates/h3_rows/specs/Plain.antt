@@ -1,4 +1,5 @@
--- Rows with whole fields alone, found by a look at sixteen bytes at once. Private contracts and proofs alone cite this file.
+-- Rows with whole fields alone, found by a look at sixteen bytes at once. Private contracts and proofs alone cite this
+-- file.
 use Rattle.std.specs.Prelude.{◌≡◌, ℕ, ◌+◌, ◌<◌, ◌≤◌, ◌==◌, ◌||◌, Bool, true, false, not, List, ◌∷◌, ◌++◌, length, replicate, take, Some, if◌then◌else◌}
 use Rattle.h3_index.specs.Text.{parsed_index}
 use Rattle.std.specs.List.{list_all}
@@ -24,7 +25,8 @@ is_one_line bytes = list_all (λ b. not (is_byte2 10 13 b)) bytes
 pub record IsWhole (separator : ℕ) (quotes : Bool) (field : List ℕ) : Type 0 where
   pub uncut : Uncut separator quotes false field false
   pub on_line : is_one_line field ≡ true
-  pub goes_on : quotes ≡ true → (more : List ℕ) → opens_well separator true false false (field ++ separator ∷ more) ≡ opens_well separator true false false more
+  pub goes_on : quotes ≡ true → (more : List ℕ)
+      → opens_well separator true false false (field ++ separator ∷ more) ≡ opens_well separator true false false more
   pub opens : quotes ≡ true → opens_well separator true false false field ≡ true
   pub alike : quotes ≡ true → is_read_alike separator field ≡ true
 
@@ -32,7 +34,8 @@ pub record IsWhole (separator : ℕ) (quotes : Bool) (field : List ℕ) : Type 0
 pub record AreWhole (separator : ℕ) (quotes : Bool) (bytes : List ℕ) : Type 0 where
   pub on_line : is_one_line bytes ≡ true
   pub outside : inside_after quotes false bytes ≡ false
-  pub sound : quotes ≡ true → (more : List ℕ) → quotes_are_sound separator more ≡ true → quotes_are_sound separator (bytes ++ more) ≡ true
+  pub sound : quotes ≡ true → (more : List ℕ) → quotes_are_sound separator more ≡ true
+      → quotes_are_sound separator (bytes ++ more) ≡ true
 
 -- whole fields, with the separator between them
 pub record IsWholeRow (separator : ℕ) (quotes : Bool) (bytes : List ℕ) : Type 0 where
@@ -51,8 +54,10 @@ pub record PassesFields (separator : ℕ) (quotes : Bool) (before left : ℕ) (b
   pub front : List ℕ
   pub split : bytes ≡ front ++ rest
   pub whole : AreWhole separator quotes front
-  pub passed : (more : List ℕ) → piece_at before (cut separator quotes false (front ++ more)) ≡ piece_at left (cut separator quotes false more)
-  pub counted : (more : List ℕ) → length (cut separator quotes false (front ++ more)) + left ≡ before + length (cut separator quotes false more)
+  pub passed : (more : List ℕ)
+      → piece_at before (cut separator quotes false (front ++ more)) ≡ piece_at left (cut separator quotes false more)
+  pub counted : (more : List ℕ)
+      → length (cut separator quotes false (front ++ more)) + left ≡ before + length (cut separator quotes false more)
 
 -- from its cell's field on, which has `end` bytes, a row of whole fields has `last` bytes, and it has as many fields as
 -- it should

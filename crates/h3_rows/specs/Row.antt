@@ -25,8 +25,8 @@ returns_of (b ∷ bs) = if are_returns (b ∷ bs) then b ∷ bs else returns_of 
 abbrev pub row_ending : List ℕ → List ℕ
 row_ending line = returns_of line ++ 10 ∷ []
 
--- lacking returns line: what is put behind a last row without a line feed, if the row before it ended in `returns`: nothing,
--- if the row is empty or ends in a carriage return
+-- lacking returns line: what is put behind a last row without a line feed, if the row before it ended in `returns`:
+-- nothing, if the row is empty or ends in a carriage return
 abbrev pub lacking : List ℕ → List ℕ → List ℕ
 lacking returns line = if (length line == 0) || not (length (returns_of line) == 0) then [] else returns
 
@@ -66,8 +66,8 @@ mark_of number row = if (number == 1) && has_order_mark row then take 3 row else
 abbrev pub unmarked : ℕ → List ℕ → List ℕ
 unmarked number line = read_of number (row_body line) ++ returns_of line
 
--- is_empty_row number row: the row with this number, without its ending, is empty; the byte order mark before a first row
--- does not count
+-- is_empty_row number row: the row with this number, without its ending, is empty; the byte order mark before a first
+-- row does not count
 abbrev pub is_empty_row : ℕ → List ℕ → Bool
 is_empty_row number row = length (read_of number row) == 0
 
@@ -79,18 +79,20 @@ piece_at (suc k) (p ∷ ps) = piece_at k ps
 
 -- unquoted bytes: without a quote at the beginning and one at the end, if it has both and they are two
 abbrev pub unquoted : List ℕ → List ℕ
-unquoted bs = if nat_le 2 (length bs) && (get_or bs 0 0 == 34) && (get_or bs (length bs - 1) 0 == 34) then take (length bs - 2) (drop 1 bs) else bs
+unquoted bs =
+    if nat_le 2 (length bs) && (get_or bs 0 0 == 34)
+    && (get_or bs (length bs - 1) 0 == 34) then take (length bs - 2) (drop 1 bs) else bs
 
--- field_text quotes field: the text of a field: without the blanks at both ends, and then, if quotes count, without a pair
--- of quotes around it
+-- field_text quotes field: the text of a field: without the blanks at both ends, and then, if quotes count, without a
+-- pair of quotes around it
 abbrev pub field_text : Bool → List ℕ → List ℕ
 field_text quotes field = if quotes then unquoted (trimmed field) else trimmed field
 
--- opens_well separator start after inside bytes: each quote that opens has only blanks before it in its field, or a quote
--- right before it
+-- opens_well separator start after inside bytes: each quote that opens has only blanks before it in its field, or a
+-- quote right before it
 --
--- The three that tell what is before the bytes: whether only blanks are before them in their field, whether a quote is right
--- before them, and whether they are inside quotes.
+-- The three that tell what is before the bytes: whether only blanks are before them in their field, whether a quote is
+-- right before them, and whether they are inside quotes.
 abbrev pub opens_well : ℕ → Bool → Bool → Bool → List ℕ → Bool
 opens_well separator start after inside [] = true
 opens_well separator start after inside (b ∷ bs) =
@@ -105,12 +107,14 @@ is_padded field = is_blank (get_or field 0 0) && (get_or (without_leading_blanks
 abbrev pub is_simple : ℕ → List ℕ → Bool
 is_simple separator field = list_all (λ b. not (is_byte2 separator 10 b)) field
 
--- is_read_alike separator field: many programs take a quote after blanks for text, so a field that begins so has nothing
--- that quotes would keep together
+-- is_read_alike separator field: many programs take a quote after blanks for text, so a field that begins so has
+-- nothing that quotes would keep together
 abbrev pub is_read_alike : ℕ → List ℕ → Bool
 is_read_alike separator field = not (is_padded field) || is_simple separator field
 
--- quotes_are_sound separator row: each quote that opens has only blanks before it in its field, or a quote right before it;
--- and a field that begins with blanks and then a quote has neither a separator nor a line feed in it
+-- quotes_are_sound separator row: each quote that opens has only blanks before it in its field, or a quote right before
+-- it; and a field that begins with blanks and then a quote has neither a separator nor a line feed in it
 abbrev pub quotes_are_sound : ℕ → List ℕ → Bool
-quotes_are_sound separator row = opens_well separator true false false row && list_all (λ p. is_read_alike separator p.0) (cut separator true false row)
+quotes_are_sound separator row =
+    opens_well separator true false false row
+    && list_all (λ p. is_read_alike separator p.0) (cut separator true false row)

@@ -1,5 +1,5 @@
--- The answer to rows of which each is answered on its own: each row whole, with the answer to its own cell beside it, in
--- order, up to the first error that ends it.
+-- The answer to rows of which each is answered on its own: each row whole, with the answer to its own cell beside it,
+-- in order, up to the first error that ends it.
 use Rattle.std.specs.Prelude.{codes, ℕ, ◌+◌, ◌-◌, ◌==◌, nat_lt, Bool, true, false, List, [], ◌∷◌, ◌++◌, length, Option, None, Some, Result, Ok, Err, string_bytes, if◌then◌else◌, not, ◌&&◌, ◌||◌, bytes_eq}
 use Rattle.std.specs.List.{flat_map, list_all}
 use Rattle.h3_index.specs.Text.{parsed_index, trimmed}
@@ -25,15 +25,16 @@ use Rattle.h3_rows.specs.declared.row_cell.RowCell.TheVariants.{Index, Missing}
 
 -- ---- how rows are read, and written with their answers
 
--- Choice: which field of a row has its cell: the one after so many others, or the one whose text in the header is a name
+-- Choice: which field of a row has its cell: the one after so many others, or the one whose text in the header is a
+-- name
 pub data Choice : Type 0 where
   After : ℕ → Choice
   Named : List ℕ → Choice
 
--- Form: the byte that separates fields, whether quotes count, which field has the cell, whether there is a header, the names
--- of the new columns, what a row gets that has no answer, whether quotes count in an answer too, whether the run goes on
--- after an error, whether one more column has the names of errors, and whether rows may have another number of fields than
--- the header
+-- Form: the byte that separates fields, whether quotes count, which field has the cell, whether there is a header, the
+-- names of the new columns, what a row gets that has no answer, whether quotes count in an answer too, whether the run
+-- goes on after an error, whether one more column has the names of errors, and whether rows may have another number of
+-- fields than the header
 pub record Form : Type 0 where
   pub separator : ℕ
   pub quotes : Bool
@@ -56,15 +57,15 @@ abbrev pub name_of : Option (List ℕ) → List ℕ → List ℕ
 name_of None name = name
 name_of (Some given) name = given
 
--- answer_names is_pair given name: the name of the new column; if an answer is a pair, a cell and its distance, there are
--- two: `near` and `distance`, or the name that was given, and the same with `Distance` after it
+-- answer_names is_pair given name: the name of the new column; if an answer is a pair, a cell and its distance, there
+-- are two: `near` and `distance`, or the name that was given, and the same with `Distance` after it
 abbrev pub answer_names : Bool → Option (List ℕ) → List ℕ → List (List ℕ)
 answer_names true None name = codes "near" ∷ codes "distance" ∷ []
 answer_names true (Some given) name = given ∷ (given ++ codes "Distance") ∷ []
 answer_names false given name = name_of given name ∷ []
 
--- error_names shows_errors given: the name of the column of errors, if there is one: `error`, or the name that was given
--- with `Error` after it
+-- error_names shows_errors given: the name of the column of errors, if there is one: `error`, or the name that was
+-- given with `Error` after it
 abbrev pub error_names : Bool → Option (List ℕ) → List (List ℕ)
 error_names false given = []
 error_names true None = codes "error" ∷ []
@@ -102,25 +103,28 @@ abbrev pub width_of : Option ℕ → ℕ
 width_of None = 0
 width_of (Some width) = width
 
--- fields_said quotes columns fields: what the fields of a row say of its cell, which is in the field after so many others;
--- a row is faulty that has another number of fields than the header
+-- fields_said quotes columns fields: what the fields of a row say of its cell, which is in the field after so many
+-- others; a row is faulty that has another number of fields than the header
 abbrev pub fields_said : Bool → Columns → List Piece → Result RowCell RowFault
 fields_said quotes columns fields =
-    if is_as_wide columns.width (length fields) then field_cell quotes (piece_at columns.before fields) else Err (FieldCount (length fields) (width_of columns.width))
+    if is_as_wide columns.width (length fields) then field_cell quotes (piece_at columns.before fields)
+    else Err (FieldCount (length fields) (width_of columns.width))
 
 -- row_cell form number columns row: what the row with this number says of its cell
 abbrev pub row_cell : Form → ℕ → Columns → List ℕ → Result RowCell RowFault
-row_cell form number columns row = fields_said form.quotes columns (cut form.separator form.quotes false (read_of number row))
+row_cell form number columns row =
+    fields_said form.quotes columns (cut form.separator form.quotes false (read_of number row))
 
--- malformed form number p: why a row is no row of the form, if it is none: it has more than 1,048,575 bytes, or more than
--- 1,114,111 with a byte order mark and the carriage returns at its end; if quotes count, it has a carriage return outside
--- quotes; a quote is open at its end; if quotes count, one is stray
+-- malformed form number p: why a row is no row of the form, if it is none: it has more than 1,048,575 bytes, or more
+-- than 1,114,111 with a byte order mark and the carriage returns at its end; if quotes count, it has a carriage return
+-- outside quotes; a quote is open at its end; if quotes count, one is stray
 abbrev pub malformed : Form → ℕ → Piece → Option RowFault
 malformed form number p =
     if nat_lt 1048575 (length (read_of number (row_body p.0))) || nat_lt 1114111 (length p.0) then Some TooLong else
     if form.quotes && not (is_uncut 13 true false (row_body p.0)) then Some CarriageReturn else
     if p.1 then Some OpenQuote else
-    if form.quotes && not (quotes_are_sound form.separator (read_of number (row_body p.0))) then Some StrayQuote else None
+    if form.quotes
+    && not (quotes_are_sound form.separator (read_of number (row_body p.0))) then Some StrayQuote else None
 
 -- ---- headers
 
@@ -128,7 +132,8 @@ malformed form number p =
 abbrev pub places_of : Bool → List ℕ → ℕ → List Piece → List ℕ
 places_of quotes name k [] = []
 places_of quotes name k (p ∷ ps) =
-    if bytes_eq (field_text quotes p.0) name then k ∷ places_of quotes name (k + 1) ps else places_of quotes name (k + 1) ps
+    if bytes_eq (field_text quotes p.0) name then k ∷ places_of quotes name (k + 1) ps
+    else places_of quotes name (k + 1) ps
 
 -- one_place places: the place, if there is one and no other
 abbrev pub one_place : List ℕ → Result ℕ ColumnError
@@ -160,25 +165,38 @@ columns_in form row = with_width (width_in form row) (chosen_in form form.choice
 
 -- is_free form row name: no field of a header has the text that the name has as a field
 abbrev pub is_free : Form → List ℕ → List ℕ → Bool
-is_free form row name = length (places_of form.quotes (field_text form.quotes name) 0 (cut form.separator form.quotes false row)) == 0
+is_free form row name =
+    length (places_of form.quotes (field_text form.quotes name) 0 (cut form.separator form.quotes false row)) == 0
 
--- free_columns form row columns: a header that has the name of a new column already can't get it once more
+-- have_one_text quotes name other: two names have the same text as fields
+abbrev pub have_one_text : Bool → List ℕ → List ℕ → Bool
+have_one_text quotes name other = bytes_eq (field_text quotes name) (field_text quotes other)
+
+-- are_apart quotes names: no two of the names have the same text as fields
+abbrev pub are_apart : Bool → List (List ℕ) → Bool
+are_apart quotes [] = true
+are_apart quotes (name ∷ names) =
+    list_all (λ other. not (have_one_text quotes name other)) names && are_apart quotes names
+
+-- free_columns form row columns: a header gets the names of new columns, if it has none of them already, and no two are
+-- the same
 abbrev pub free_columns : Form → List ℕ → Result Columns ColumnError → Result Columns ColumnError
 free_columns form row (Err e) = Err e
-free_columns form row (Ok columns) = if list_all (is_free form row) form.names then Ok columns else Err InUse
+free_columns form row (Ok columns) =
+    if list_all (is_free form row) form.names && are_apart form.quotes form.names then Ok columns else Err InUse
 
 -- ---- how far the answer has come
 
--- State: the number of the next row; the columns, none while a header is awaited; the empty rows before the header, which are
--- written with it; and the first error after which the run went on, with the number of others
+-- State: the number of the next row; the columns, none while a header is awaited; the empty rows before the header,
+-- which are written with it; and the first error after which the run went on, with the number of others
 pub record State : Type 0 where
   pub number : ℕ
   pub columns : Option Columns
   pub pending : List ℕ
   pub kept : Option FirstError
 
--- columns_first has_header choice: the columns at the beginning of a list; a header is awaited if there is one, and if the
--- field has a name
+-- columns_first has_header choice: the columns at the beginning of a list; a header is awaited if there is one, and if
+-- the field has a name
 abbrev pub columns_first : Bool → Choice → Option Columns
 columns_first true choice = None
 columns_first false (After k) = Some record { before = k; width = None }
@@ -209,12 +227,13 @@ pub record Step : Type 0 where
 abbrev pub row_with : ℕ → List ℕ → List ℕ → List ℕ
 row_with separator line a = row_body line ++ (separator ∷ (a ++ row_ending line))
 
--- each_with separator after line answers: the row with each of these answers, each with these bytes after it; what follows
--- the last line feed is none
+-- each_with separator after line answers: the row with each of these answers, each with these bytes after it; what
+-- follows the last line feed is none
 abbrev pub each_with : ℕ → List ℕ → List ℕ → List Piece → List ℕ
 each_with separator after line [] = []
 each_with separator after line (a ∷ []) = []
-each_with separator after line (a ∷ b ∷ more) = row_with separator line (a.0 ++ after) ++ each_with separator after line (b ∷ more)
+each_with separator after line (a ∷ b ∷ more) =
+    row_with separator line (a.0 ++ after) ++ each_with separator after line (b ∷ more)
 
 -- rows_with separator quotes after line text: the row once for each line of an answer's text, with that line; if quotes
 -- count in it, a line feed inside quotes ends no line
@@ -253,32 +272,45 @@ ends s e = record { answer = record { output = s.pending; ending = Err (ending_b
 -- error is kept
 abbrev pub faulty : Form → State → List ℕ → RowError → Step
 faulty form s line e =
-    if form.keeps_going then record { answer = written (unanswered form line (row_error_name e)); after = record { number = next_number s.number line; columns = s.columns; pending = s.pending; kept = Some (one_more s.number e s.kept) } }
+    if form.keeps_going
+    then record {
+      answer = written (unanswered form line (row_error_name e));
+      after = record {
+        number = next_number
+            s.number line;
+        columns = s.columns;
+        pending = s.pending;
+        kept = Some (one_more s.number e s.kept);
+      };
+    }
     else ends s e
 
 -- beside form s line output ending: an answer, which has this output and ending, beside its row
 abbrev pub beside : Form → State → List ℕ → List ℕ → Result (Unit {0}) AnswerError → Step
 beside form s line output (Ok u) = goes_on s line (answered_with form line output)
 beside form s line output (Err (ending_by.Call e)) = faulty form s line (row_error.Call e)
-beside form s line output (Err e) = record { answer = record { output = answered_with form line output; ending = Err e }; after = s }
+beside form s line output (Err e) =
+    record { answer = record { output = answered_with form line output; ending = Err e }; after = s }
 
 -- answer_to_cell form answer s line said: the answer to what a row says of its cell
 abbrev pub answer_to_cell : Form → (Option ℕ → Answer) → State → List ℕ → Result RowCell RowFault → Step
 answer_to_cell form answer s line (Err fault) = faulty form s line (row_error.Bad fault)
 answer_to_cell form answer s line (Ok Missing) = goes_on s line (unanswered form line (codes "missing"))
-answer_to_cell form answer s line (Ok (Index index)) = beside form s line (answer (Some index)).output (answer (Some index)).ending
+answer_to_cell form answer s line (Ok (Index index)) =
+    beside form s line (answer (Some index)).output (answer (Some index)).ending
 
--- header_step form s line columns: a header is written as it is, with the names of the new columns, after the empty rows
--- before it; if it has no such column nothing is written
+-- header_step form s line columns: a header is written as it is, with the names of the new columns, after the empty
+-- rows before it; if it has no such column nothing is written
 abbrev pub header_step : Form → State → List ℕ → Result Columns ColumnError → Step
-header_step form s line (Err e) = record { answer = record { output = []; ending = Err (ending_by.Column e) }; after = s }
+header_step form s line (Err e) =
+    record { answer = record { output = []; ending = Err (ending_by.Column e) }; after = s }
 header_step form s line (Ok columns) = record {
   answer = written (s.pending ++ header_with form.separator line form.names);
   after = record { number = next_number s.number line; columns = Some columns; pending = []; kept = s.kept };
 }
 
--- begun_with mark ending text: a mark before what is written of a row; an error that ends the answer leaves it out, as then
--- no row is written
+-- begun_with mark ending text: a mark before what is written of a row; an error that ends the answer leaves it out, as
+-- then no row is written
 abbrev pub begun_with : List ℕ → Result (Unit {0}) AnswerError → List ℕ → List ℕ
 begun_with mark (Ok u) text = mark ++ text
 begun_with mark (Err e) text = text
@@ -290,26 +322,36 @@ marked mark step = record {
   after = step.after;
 }
 
--- filled_step form answer s line columns: the answer to a row that is not empty: it is the header while one is awaited. The
--- byte order mark before the first row of a list is written once, before the row
+-- filled_step form answer s line columns: the answer to a row that is not empty: it is the header while one is awaited.
+-- The byte order mark before the first row of a list is written once, before the row
 abbrev pub filled_step : Form → (Option ℕ → Answer) → State → List ℕ → Option Columns → Step
 filled_step form answer s line None = let row = read_of s.number (row_body line) in header_step form s line (free_columns form row (columns_in form row))
 filled_step form answer s line (Some columns) =
     marked (mark_of s.number (row_body line))
     (answer_to_cell form answer s (unmarked s.number line) (row_cell form s.number columns (row_body line)))
 
--- empty_step s line columns: an empty row is written as it is; before a header it is held back, but for more than 32,768
--- bytes of such rows, which are written at once
+-- empty_step s line columns: an empty row is written as it is; before a header it is held back, but for more than
+-- 32,768 bytes of such rows, which are written at once
 abbrev pub empty_step : State → List ℕ → Option Columns → Step
 empty_step s line None =
     if nat_lt 32768 (length s.pending + length line + 1) then
     record { answer = written (s.pending ++ (line ++ 10 ∷ [])); after = record { number = next_number s.number line; columns = s.columns; pending = []; kept = s.kept } }
-    else record { answer = written []; after = record { number = next_number s.number line; columns = s.columns; pending = s.pending ++ (line ++ 10 ∷ []); kept = s.kept } }
+    else record {
+      answer = written [];
+      after = record {
+        number = next_number s.number line;
+        columns = s.columns;
+        pending = s.pending ++ (line ++ 10 ∷ []);
+        kept = s.kept;
+      };
+    }
 empty_step s line (Some columns) = goes_on s line (line ++ 10 ∷ [])
 
 -- sound_step form answer s line: the answer to a row that is not malformed
 abbrev pub sound_step : Form → (Option ℕ → Answer) → State → List ℕ → Step
-sound_step form answer s line = if is_empty_row s.number (row_body line) then empty_step s line s.columns else filled_step form answer s line s.columns
+sound_step form answer s line =
+    if is_empty_row s.number (row_body line) then empty_step s line s.columns
+    else filled_step form answer s line s.columns
 
 -- step_unless fault form answer s line: the answer to a row that is malformed for this reason, or is not
 abbrev pub step_unless : Option RowFault → Form → (Option ℕ → Answer) → State → List ℕ → Step
@@ -327,7 +369,8 @@ row_step form answer s p = step_unless (malformed form s.number p) form answer s
 abbrev pub rows_then : (State → Answer) → Form → (Option ℕ → Answer) → State → List Piece → Answer
 rows_then last form answer s [] = last s
 rows_then last form answer s (p ∷ ps) =
-    then_answer (row_step form answer s p).answer.output (row_step form answer s p).answer.ending (rows_then last form answer (row_step form answer s p).after ps)
+    then_answer (row_step form answer s p).answer.output (row_step form answer s p).answer.ending
+    (rows_then last form answer (row_step form answer s p).after ps)
 
 -- kept_ending kept: a run that went on ends with the first error, and the number of others
 abbrev pub kept_ending : Option FirstError → Result (Unit {0}) AnswerError

@@ -47,10 +47,12 @@ fn answer_cell<'f, W: Sink, F: RowFunction>(
     end: usize,
     job: &RowJob<'f, F>,
     work: &mut Workspace,
+    numbers: &mut [u32],
     row: Row<'_>,
     said: Result<RowCell, RowFault>,
 ) -> Result<Result<usize, RowError>, RunError>
-    requires { end ≤ BLOCK }
+    requires within { end ≤ BLOCK }
+    requires room { F.needs job.now.function.now ≤ length numbers.old }
     ensures within { IfOk result (λ o. IfOk o (λ last. last ≤ BLOCK)) }
     ensures ok { IfOk result (λ o. IfOk o (λ last. PutsCell W.taken W.has_failed
         (λ s. answer_to_cell (form_of_job F.counts_quotes job.now) (F.answer_of job.now.function.now)
@@ -72,9 +74,9 @@ fn answer_cell<'f, W: Sink, F: RowFunction>(
             let separator = job.options.separator;
             let between = [separator];
             let after = &between[..after_size(job.options)];
-            let put = job
-                .function
-                .put_beside(index, out, work, block, end, separator, row, after)?;
+            let put = job.function.put_beside(
+                index, out, work, numbers, block, end, separator, row, after,
+            )?;
             match put {
                 Ok(last) => Ok(Ok(last)),
                 Err(error) => Ok(Err(RowError::Call(error))),
@@ -122,6 +124,7 @@ fn put_cell<'f, W: Sink, F: RowFunction>(
     mark: usize,
     job: &RowJob<'f, F>,
     work: &mut Workspace,
+    numbers: &mut [u32],
     state: RowState,
     row: Row<'_>,
     said: Result<RowCell, RowFault>,
@@ -129,6 +132,7 @@ fn put_cell<'f, W: Sink, F: RowFunction>(
     requires within { end + mark ≤ BLOCK }
     requires known { (k : Columns) × (state.columns ≡ Some k) }
     requires few { state.number + length row.body.now < 2 ^ 63 }
+    requires room { F.needs job.now.function.now ≤ length numbers.old }
     ensures within { IfOk result (λ r. r.0 ≤ BLOCK) }
     ensures few { IfOk result (λ r. r.1.number ≤ state.number + length row.entry.body.now + 1) }
     ensures ok { IfOk result (λ r. StepsTo W.taken W.has_failed
@@ -143,7 +147,7 @@ fn put_cell<'f, W: Sink, F: RowFunction>(
         (sink_use W.taken W.has_failed out.old out.new)) }
 {
     let start = end + mark;
-    match answer_cell(out, block, start, job, work, row, said)? {
+    match answer_cell(out, block, start, job, work, numbers, row, said)? {
         Ok(last) => {
             let room = make_room(out, block, last)?;
             Ok((room, state.passed(row)))
@@ -163,6 +167,7 @@ fn put_filled<'f, W: Sink, F: RowFunction>(
     end: usize,
     job: &RowJob<'f, F>,
     work: &mut Workspace,
+    numbers: &mut [u32],
     state: RowState,
     columns: Columns,
     row: Row<'_>,
@@ -170,6 +175,7 @@ fn put_filled<'f, W: Sink, F: RowFunction>(
     requires within { end ≤ BLOCK }
     requires known { state.columns ≡ Some columns }
     requires few { state.number + length row.body.now < 2 ^ 63 }
+    requires room { F.needs job.now.function.now ≤ length numbers.old }
     ensures within { IfOk result (λ r. r.0 ≤ BLOCK) }
     ensures few { IfOk result (λ r. r.1.number ≤ state.number + length row.entry.body.now + 1) }
     ensures ok { IfOk result (λ r. StepsTo W.taken W.has_failed
@@ -187,7 +193,10 @@ fn put_filled<'f, W: Sink, F: RowFunction>(
     let mark = mark_of(state.number, row.body);
     let start = hold_mark(out, block, end, mark)?;
     let row = without_mark(state.number, row);
-    put_cell(out, block, start, mark.len(), job, work, state, row, said)
+    let size = mark.len();
+    put_cell(
+        out, block, start, size, job, work, numbers, state, row, said,
+    )
 }
 
 /// Puts the answer to a row.
@@ -197,12 +206,14 @@ pub(crate) fn put_answer<'f, W: Sink, F: RowFunction>(
     end: usize,
     job: &RowJob<'f, F>,
     work: &mut Workspace,
+    numbers: &mut [u32],
     state: RowState,
     row: Row<'_>,
     inside: bool,
 ) -> Result<(usize, RowState), RunError>
     requires within { end ≤ BLOCK }
     requires few { state.number + length row.body.now < 2 ^ 63 }
+    requires room { F.needs job.now.function.now ≤ length numbers.old }
     ensures within { IfOk result (λ r. r.0 ≤ BLOCK) }
     ensures few { IfOk result (λ r. r.1.number ≤ state.number + length row.entry.body.now + 1) }
     ensures ok { IfOk result (λ r. StepsTo W.taken W.has_failed
@@ -224,7 +235,7 @@ pub(crate) fn put_answer<'f, W: Sink, F: RowFunction>(
     }
     match state.columns {
         None => put_header(out, block, end, job, state, row),
-        Some(columns) => put_filled(out, block, end, job, work, state, columns, row),
+        Some(columns) => put_filled(out, block, end, job, work, numbers, state, columns, row),
     }
 }
 
@@ -258,12 +269,14 @@ pub(crate) fn put_plain<'f, F: RowFunction>(
     end: usize,
     job: &RowJob<'f, F>,
     work: &mut Workspace,
+    numbers: &mut [u32],
     state: RowState,
     columns: Columns,
     bytes: &[u8],
 ) -> Option<(usize, usize, usize)>
     requires within { end ≤ BLOCK }
     requires known { state.columns ≡ Some columns }
+    requires room { F.needs job.now.function.now ≤ length numbers.old }
     ensures within { IfSome result (λ r. r.2 ≤ BLOCK) }
     ensures some { IfSome result (λ r. PutsPlain
         (form_of_job F.counts_quotes job.now) (F.answer_of job.now.function.now) state bytes.now
@@ -283,7 +296,7 @@ pub(crate) fn put_plain<'f, F: RowFunction>(
         return None;
     }
     let at = hold_row(block, end, row.body, separator);
-    match job.function.put_short(index, work, block, at) {
+    match job.function.put_short(index, work, numbers, block, at) {
         Some(last) if is_one_line(block, at, last) => {
             if row.returns == 0 {
                 return Some((size, row.returns, last));

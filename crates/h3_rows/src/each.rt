@@ -1,7 +1,7 @@
 //! Rows of which each is written with the answer to its cell beside it.
 
 ghost use Rattle.std.proofs.Common.{◌∙◌, refl};
-ghost use Rattle.std.specs.Prelude.{◌≡◌, ◌+◌, ◌≤◌, [], replicate, take, vec_capacity};
+ghost use Rattle.std.specs.Prelude.{◌≡◌, ◌+◌, ◌≤◌, [], length, replicate, take, vec_capacity};
 ghost use Rattle.h3_lines.specs.Write.{Writes, sink_use};
 ghost use Rattle.h3_lines.specs.declared.line.TheConstants.{BLOCK};
 ghost use Rattle.h3_lines.specs.Answering.{Answered, RefusesEach};
@@ -55,15 +55,17 @@ fn end_answer<W: Sink>(
 /// The rows of an input with their answers, in a block that is written when it is full; and how many
 /// carriage returns the last row taken ended in.
 #[derive(Drop)]
-struct RowAnswers<'a, 'f, W, F> {
+struct RowAnswers<'a, 'f, W, F: RowFunction> {
     out: &'a mut W,
     job: &'f RowJob<'f, F>,
     work: Workspace,
+    numbers: &'a mut [u32],
     state: RowState,
     block: [u8; BLOCK],
     end: usize,
     returns: usize,
     ghost within: { end ≤ BLOCK },
+    ghost room: { F.needs job.now.function.now ≤ length numbers.now },
 }
 
 impl<'a, 'f, W: Sink, F: RowFunction> JobContract for RowAnswers<'a, 'f, W, F> {
@@ -137,6 +139,7 @@ impl<'a, 'f, W: Sink, F: RowFunction> Job for RowAnswers<'a, 'f, W, F> {
             self.end,
             self.job,
             &mut self.work,
+            self.numbers,
             self.state,
             row,
             inside,
@@ -164,6 +167,7 @@ impl<'a, 'f, W: Sink, F: RowFunction> Job for RowAnswers<'a, 'f, W, F> {
             self.end,
             self.job,
             &mut self.work,
+            self.numbers,
             self.state,
             columns,
             bytes,
@@ -223,11 +227,13 @@ fn answer_input<'a, 'f, R: Source, W: Sink, F: RowFunction>(
 #[inline(never)]
 fn answer_pages<'f, R: Source, W: Sink, F: RowFunction>(
     job: &'f RowJob<'f, F>,
+    numbers: &mut [u32],
     input: &mut R,
     out: &mut W,
     page: &mut Vec<u8>,
 ) -> Result<(), RunError>
     requires page { LONGEST + PAGE ≤ vec_capacity page.old }
+    requires room { F.needs job.now.function.now ≤ length numbers.old }
     ensures { EndsRows job.now.options.now.quotes
         (rows_answer (form_of_job F.counts_quotes job.now)
         (F.answer_of job.now.function.now))
@@ -244,6 +250,7 @@ fn answer_pages<'f, R: Source, W: Sink, F: RowFunction>(
             place: 0,
             text: [0; BLOCK],
         },
+        numbers,
         state: first_state(job.options),
         block: [0; BLOCK],
         end: 0,
@@ -262,9 +269,11 @@ pub(crate) fn answer_input_by<R: Source, W: Sink, F: RowFunction>(
     name: &[u8],
     is_pair: bool,
     function: &F,
+    numbers: &mut [u32],
     input: &mut R,
     out: &mut W,
 ) -> Result<(), RunError>
+    requires { F.needs function.now ≤ length numbers.old }
     ensures { EndsRows options.now.quotes
         (rows_answer (form_with (F.counts_quotes function.now) options.now name.now is_pair)
         (F.answer_of function.now))
@@ -281,7 +290,7 @@ pub(crate) fn answer_input_by<R: Source, W: Sink, F: RowFunction>(
         is_pair,
         function,
     };
-    answer_pages(&job, input, out, &mut page)
+    answer_pages(&job, numbers, input, out, &mut page)
 }
 
 /// Writes each row of an input with the answer to its own cell beside it, in order, up to the end or
@@ -321,5 +330,14 @@ pub fn answer_rows<R: Source, W: Sink, F: AnswerLine>(
         (R.has_failed input.old) (R.has_failed input.new) result
         (sink_use W.taken W.has_failed out.old out.new) }
 {
-    answer_input_by(alloc, options, name, false, &Short { function }, input, out)
+    answer_input_by(
+        alloc,
+        options,
+        name,
+        false,
+        &Short { function },
+        &mut [],
+        input,
+        out,
+    )
 }

@@ -65,11 +65,14 @@ impl<'f, F: LinesFunction> RowFunction for Long<'f, F> {
 
     ghost counts_quotes = { λ f. false };
 
+    ghost needs = { λ f. 0 };
+
     fn put_beside<W: Sink>(
         &self,
         index: u64,
         out: &mut W,
         work: &mut Workspace,
+        _numbers: &mut [u32],
         block: &mut [u8; BLOCK],
         end: usize,
         separator: u8,
@@ -90,6 +93,7 @@ impl<'f, F: LinesFunction> RowFunction for Long<'f, F> {
         &self,
         _index: u64,
         _work: &mut Workspace,
+        _numbers: &mut [u32],
         _block: &mut [u8; BLOCK],
         _at: usize,
     ) -> Option<usize> {
@@ -131,6 +135,7 @@ pub fn answer_rows_lines<R: Source, W: Sink, F: LinesFunction>(
         name,
         is_pair,
         &Long { function },
+        &mut [],
         input,
         out,
     )

@@ -28,11 +28,14 @@ impl<'f, F: TextFunction> RowFunction for Texts<'f, F> {
 
     ghost counts_quotes = { λ f. F.counts_quotes f.function.now };
 
+    ghost needs = { λ f. 0 };
+
     fn put_beside<W: Sink>(
         &self,
         index: u64,
         out: &mut W,
         work: &mut Workspace,
+        _numbers: &mut [u32],
         block: &mut [u8; BLOCK],
         end: usize,
         separator: u8,
@@ -53,6 +56,7 @@ impl<'f, F: TextFunction> RowFunction for Texts<'f, F> {
         &self,
         index: u64,
         work: &mut Workspace,
+        _numbers: &mut [u32],
         block: &mut [u8; BLOCK],
         at: usize,
     ) -> Option<usize> {
@@ -90,5 +94,14 @@ pub fn answer_rows_text<R: Source, W: Sink, F: TextFunction>(
         (R.has_failed input.old) (R.has_failed input.new) result
         (sink_use W.taken W.has_failed out.old out.new) }
 {
-    answer_input_by(alloc, options, name, false, &Texts { function }, input, out)
+    answer_input_by(
+        alloc,
+        options,
+        name,
+        false,
+        &Texts { function },
+        &mut [],
+        input,
+        out,
+    )
 }

@@ -1,6 +1,6 @@
 //! What answers the cells of rows, each with its row beside it.
 
-ghost use Rattle.std.specs.Prelude.{◌≡◌, ◌+◌, ◌≤◌, ℕ, Bool, false, Option, Some, take, IfOk, IfErr, IfNone, IfSome};
+ghost use Rattle.std.specs.Prelude.{◌≡◌, ◌+◌, ◌≤◌, ℕ, Bool, false, Option, Some, length, take, IfOk, IfErr, IfNone, IfSome};
 ghost use Rattle.h3_lines.specs.Answer.{Answer, refused};
 ghost use Rattle.h3_lines.specs.Write.{sink_use};
 ghost use Rattle.h3_rows.specs.Answering.{BreaksBeside, PutsBeside, PutsShort};
@@ -27,6 +27,9 @@ pub(crate) trait RowFunction {
     /// Whether quotes count in an answer, as it is cut into lines.
     ghost counts_quotes: { Self → Bool };
 
+    /// How many numbers it needs. They are unspecified afterwards.
+    ghost needs: { Self → ℕ };
+
     /// Puts a row once for each line of the answer to its cell, with the bytes `after` it, after the
     /// bytes held back in a block, which end at `end`, and returns where they end then; or returns the answer's error, and changes
     /// nothing of them.
@@ -35,13 +38,15 @@ pub(crate) trait RowFunction {
         index: u64,
         out: &mut W,
         work: &mut Workspace,
+        numbers: &mut [u32],
         block: &mut [u8; BLOCK],
         end: usize,
         separator: u8,
         row: Row<'_>,
         after: &[u8],
     ) -> Result<Result<usize, H3Error>, RunError>
-        requires { end ≤ BLOCK }
+        requires within { end ≤ BLOCK }
+        requires room { needs self.now ≤ length numbers.old }
         ensures within { IfOk result (λ o. IfOk o (λ last. last ≤ BLOCK)) }
         ensures ok { IfOk result (λ o. IfOk o (λ last.
             PutsBeside W.taken W.has_failed (answer_of self.now (Some index)) separator
@@ -61,10 +66,12 @@ pub(crate) trait RowFunction {
         &self,
         index: u64,
         work: &mut Workspace,
+        numbers: &mut [u32],
         block: &mut [u8; BLOCK],
         at: usize,
     ) -> Option<usize>
-        requires room { at + ANSWER ≤ BLOCK }
+        requires within { at + ANSWER ≤ BLOCK }
+        requires room { needs self.now ≤ length numbers.old }
         ensures end { IfSome result (λ last. last ≤ at + ANSWER) }
         ensures some { IfSome result (λ last.
             PutsShort (counts_quotes self.now) (answer_of self.now (Some index))
@@ -83,12 +90,15 @@ impl<'f, F: AnswerLine> RowFunction for Short<'f, F> {
 
     ghost counts_quotes = { λ f. false };
 
+    ghost needs = { λ f. 0 };
+
     #[inline(always)]
     fn put_beside<W: Sink>(
         &self,
         index: u64,
         out: &mut W,
         work: &mut Workspace,
+        _numbers: &mut [u32],
         block: &mut [u8; BLOCK],
         end: usize,
         separator: u8,
@@ -111,6 +121,7 @@ impl<'f, F: AnswerLine> RowFunction for Short<'f, F> {
         &self,
         index: u64,
         work: &mut Workspace,
+        _numbers: &mut [u32],
         block: &mut [u8; BLOCK],
         at: usize,
     ) -> Option<usize> {

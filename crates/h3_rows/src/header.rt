@@ -1,13 +1,13 @@
 //! Headers, and columns by their name.
 
-ghost use Rattle.std.specs.Prelude.{◌≡◌, ◌==◌, ◌≤◌, ◌+◌, ℕ, List, [], ◌∷◌, ◌++◌, false, length, option_map, string_bytes, bytes_eq, true, IfSome};
+ghost use Rattle.std.specs.Prelude.{◌≡◌, ◌==◌, ◌≤◌, ◌+◌, ℕ, List, [], ◌∷◌, ◌++◌, false, not, length, option_map, string_bytes, bytes_eq, true, IfSome};
 ghost use Rattle.std.specs.List.{list_all};
 ghost use Rattle.h3_requests.specs.Rows.{is_counted};
 ghost use Rattle.h3_rows.specs.Answering.{fields_left, is_tail, listed};
 ghost use Rattle.h3_lines.specs.Pieces.{cut};
 ghost use Rattle.h3_rows.specs.Row.{field_text};
 ghost use Rattle.h3_rows.specs.RowForm.{columns_form, form_of};
-ghost use Rattle.h3_rows.specs.RowsAnswer.{answer_names, choice_of, chosen_in, column_of, columns_in, error_names, free_columns, is_free, places_of};
+ghost use Rattle.h3_rows.specs.RowsAnswer.{answer_names, are_apart, choice_of, chosen_in, column_of, columns_in, error_names, free_columns, have_one_text, is_free, places_of};
 
 use crate::fields::{count_fields, field_text, without_leading_blanks};
 use crate::state::Columns;
@@ -173,6 +173,60 @@ fn are_free(options: &RowOptions, name: &[u8], is_pair: bool, row: &[u8]) -> boo
         && error_name(options).is_none_or(|error| is_free(options, error, row))
 }
 
+/// Whether two names are the same, if the first part of the one is no longer than that of the other.
+fn is_same(one: Name<'_>, other: Name<'_>) -> bool
+    requires { length one.0.now ≤ length other.0.now }
+    ensures { result ≡ bytes_eq (one.entry.0.now ++ one.entry.1.now)
+        (other.entry.0.now ++ other.entry.1.now) }
+{
+    let (first, more) = one;
+    let (whole, end) = other;
+    let is_begun = first == &whole[..first.len()];
+    is_begun && is_name(more, (&whole[first.len()..], end))
+}
+
+/// Whether two names have the same text as fields.
+fn have_one_text(quotes: bool, one: Name<'_>, other: Name<'_>) -> bool
+    requires one { is_tail one.1.now ≡ true }
+    requires other { is_tail other.1.now ≡ true }
+    ensures { result ≡ have_one_text quotes (one.entry.0.now ++ one.entry.1.now)
+        (other.entry.0.now ++ other.entry.1.now) }
+{
+    let one = name_text(quotes, one);
+    let other = name_text(quotes, other);
+    if one.0.len() <= other.0.len() {
+        return is_same(one, other);
+    }
+    is_same(other, one)
+}
+
+/// Whether a name has another text as a field than a second one, if there is that.
+fn is_apart(quotes: bool, one: Name<'_>, other: Option<Name<'_>>) -> bool
+    requires one { is_tail one.1.now ≡ true }
+    requires other { IfSome other (λ n. is_tail n.1.now ≡ true) }
+    ensures { result ≡ list_all (λ n. not (have_one_text quotes (one.entry.0.now ++ one.entry.1.now) n))
+        (listed (option_map (λ n. n.0.now ++ n.1.now) other.entry)) }
+{
+    match other {
+        Some(other) => !have_one_text(quotes, one, other),
+        None => true,
+    }
+}
+
+/// Whether no two names of new columns have the same text as fields.
+fn are_apart(options: &RowOptions, name: &[u8], is_pair: bool) -> bool
+    ensures { result ≡ are_apart options.now.quotes (columns_form options.now name.now is_pair).names }
+{
+    let (first, second) = answer_names(options, name, is_pair);
+    let error = error_name(options);
+    let quotes = options.quotes;
+    let are_first_apart = is_apart(quotes, first, second) && is_apart(quotes, first, error);
+    match second {
+        Some(second) => are_first_apart && is_apart(quotes, second, error),
+        None => are_first_apart,
+    }
+}
+
 /// The columns, by a header to which the names of new ones are added.
 pub(crate) fn free_columns(
     options: &RowOptions,
@@ -185,6 +239,9 @@ pub(crate) fn free_columns(
 {
     let columns = columns_in(options, row)?;
     if !are_free(options, name, is_pair, row) {
+        return Err(ColumnError::InUse);
+    }
+    if !are_apart(options, name, is_pair) {
         return Err(ColumnError::InUse);
     }
     Ok(columns)

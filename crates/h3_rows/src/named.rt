@@ -1,13 +1,14 @@
-//! The rows of a table in which one field has a cell, and another a name.
+//! The rows of a table in which one field has a cell, and a second one a text or a number.
 
-ghost use Rattle.std.specs.Prelude.{◌≡◌, ◌+◌, ◌<◌, ◌≤◌, ◌++◌, ◌∷◌, ◌^◌, ⊤, ℕ, List, [], length, option_map, Ok, Err, IfOk, IfErr, OnOk, vec_capacity};
+ghost use Rattle.std.specs.Prelude.{◌≡◌, ◌+◌, ◌<◌, ◌≤◌, ◌++◌, ◌∷◌, ◌^◌, ⊤, ℕ, true, List, [], length, option_map, Ok, Err, IfOk, IfErr, OnOk, vec_capacity};
 ghost use Rattle.h3_lines.specs.Taking.{HaveCells, RefusesCells};
 ghost use Rattle.h3_lines.specs.TakingLaws.{have_none, have_then, refuses_after};
 ghost use Rattle.h3_lines.specs.declared.run_error.Fault.TheVariants.{Memory};
 ghost use Rattle.h3_lines.specs.declared.run_error.RunError.TheVariants as refusal;
+ghost use Rattle.h3_requests.specs.Rows.{is_counted};
 ghost use Rattle.h3_rows.specs.Line.{line_of};
-ghost use Rattle.h3_rows.specs.Named.{AllNamedRead, Entry, RefusesNamed, entry_list, name_at, named_end, named_found, named_row, table_columns, table_first, table_of, title_list, without_name};
-ghost use Rattle.h3_rows.specs.NamedIn.{named_in};
+ghost use Rattle.h3_rows.specs.Named.{AllNamedRead, Entry, RefusesNamed, entry_list, name_at, named_end, named_found, named_row, table_columns, table_first, table_of, title_list, with_number, with_text, without_name};
+ghost use Rattle.h3_rows.specs.NamedIn.{named_in, table_in};
 ghost use Rattle.h3_rows.specs.Row.{next_number};
 ghost use Rattle.h3_rows.specs.RowForm.{form_of};
 ghost use Rattle.h3_rows.specs.declared.reading.TheConstants.{LONGEST};
@@ -16,34 +17,35 @@ use crate::cells::read_cell;
 use crate::fields::{find_field, read_of, trimmed};
 use crate::header::{chosen_field, columns_in};
 use crate::line::row_of;
+use crate::numbers::field_number;
 use crate::reading::{LONGEST, malformed};
 use crate::row::Row;
 use crate::state::first_state;
-use crate::table::{TableColumns, TableState};
+use crate::table::{FieldContent, TableColumns, TableForm, TableState};
 use h3_index::Cell;
 use h3_lines::{
     AnswerError, ColumnError, Job, JobContract, MAX_READS, PAGE, RowError, RowFault, RunError,
     drive, row_page,
 };
-use h3_requests::{CellField, TableOptions};
+use h3_requests::{CellField, RowOptions};
 use h3_streams::{CountedReader, Source};
 use std::alloc::Global;
 
-/// What is read of a row: its cell and its name. A header has names and no cell of the list.
+/// What is read of a row: its cell and its second field. A header has no cell of the list.
 type RowEntry<'r> = (Option<Cell>, &'r [u8]);
 
 /// The columns, by a header.
-fn find_columns(table: &TableOptions, row: &[u8]) -> Result<TableColumns, ColumnError>
-    ensures { result ≡ table_columns (table_of table.now) row.now }
+fn find_columns(table: &TableForm<'_>, row: &[u8]) -> Result<TableColumns, ColumnError>
+    ensures { result ≡ table_columns (table_in table.now) row.now }
 {
-    let cell = columns_in(&table.rows, row)?;
-    let name = chosen_field(&table.rows, &table.name, row)?;
+    let cell = columns_in(table.rows, row)?;
+    let name = chosen_field(table.rows, table.field, row)?;
     Ok(TableColumns { cell, name })
 }
 
-/// The name in a row, which is the field after `before` others without the blanks at both ends.
-fn find_name<'r>(table: &TableOptions, before: usize, row: &'r [u8]) -> Option<&'r [u8]>
-    ensures { option_map (λ f. f.now) result ≡ name_at (form_of table.now.rows []) before row.now }
+/// The second field of a row, which is after `before` others, without the blanks at both ends.
+fn find_name<'r>(table: &TableForm<'_>, before: usize, row: &'r [u8]) -> Option<&'r [u8]>
+    ensures { option_map (λ f. f.now) result ≡ name_at (form_of table.now.rows.now []) before row.now }
 {
     match find_field(table.rows.separator, table.rows.quotes, before, row) {
         Some(field) => Some(trimmed(field)),
@@ -51,10 +53,10 @@ fn find_name<'r>(table: &TableOptions, before: usize, row: &'r [u8]) -> Option<&
     }
 }
 
-/// The name in a header, if it has a field for it.
-fn find_title<'r>(table: &TableOptions, before: usize, row: &'r [u8]) -> Option<RowEntry<'r>>
-    ensures { entry_list (option_map (λ p. (p.0, p.1.now)) result)
-        ≡ title_list (name_at (form_of table.now.rows []) before row.now) }
+/// The second field of a header, if it has that.
+fn find_title<'r>(table: &TableForm<'_>, before: usize, row: &'r [u8]) -> Option<RowEntry<'r>>
+    ensures { (n : ℕ) → entry_list n (option_map (λ p. (p.0, p.1.now)) result)
+        ≡ title_list n (name_at (form_of table.now.rows.now []) before row.now) }
 {
     match find_name(table, before, row) {
         Some(name) => Some((None, name)),
@@ -72,33 +74,71 @@ fn without_name(error: RowError) -> RowError
     }
 }
 
-/// The cell of a row with its name, `None` if the cell is missing.
+/// What is read of a row by its cell and its second field, if that has a text.
+fn with_text(
+    cell: Result<Option<Cell>, RowError>,
+    field: Option<&[u8]>,
+) -> Result<Option<RowEntry<'_>>, RowError>
+    ensures ok { IfOk result (λ r. with_text cell (option_map (λ f. f.now) field.entry)
+        ≡ Ok (option_map (λ p. (p.0, p.1.now)) r)) }
+    ensures err { IfErr result (λ e. with_text cell (option_map (λ f. f.now) field.entry) ≡ Err e) }
+{
+    match (cell, field) {
+        (Ok(None), _) => Ok(None),
+        (Ok(Some(cell)), Some(field)) => Ok(Some((Some(cell), field))),
+        (Ok(Some(_)), None) => Err(RowError::Bad(RowFault::NoSuchField)),
+        (Err(error), Some(_)) => Err(error),
+        (Err(error), None) => Err(without_name(error)),
+    }
+}
+
+/// What is read of a row by its cell and its second field, if that has a number.
+fn with_number(
+    quotes: bool,
+    cell: Result<Option<Cell>, RowError>,
+    field: Option<&[u8]>,
+) -> Result<Option<RowEntry<'_>>, RowError>
+    ensures ok { IfOk result (λ r. with_number quotes cell (option_map (λ f. f.now) field.entry)
+        ≡ Ok (option_map (λ p. (p.0, p.1.now)) r)) }
+    ensures err { IfErr result (λ e. with_number quotes cell (option_map (λ f. f.now) field.entry) ≡ Err e) }
+{
+    match cell {
+        Err(error) => Err(error),
+        Ok(None) => Ok(None),
+        Ok(Some(cell)) => {
+            let Some(field) = field else {
+                return Err(RowError::NotANumber);
+            };
+            match field_number(quotes, field) {
+                Some(_) => Ok(Some((Some(cell), field))),
+                None => Err(RowError::NotANumber),
+            }
+        }
+    }
+}
+
+/// What is read of a row: its cell and its second field, or `None` if the cell is missing.
 fn read_named<'r>(
-    table: &TableOptions,
+    table: &TableForm<'_>,
     number: u64,
     columns: TableColumns,
     row: &'r [u8],
 ) -> Result<Option<RowEntry<'r>>, RowError>
-    ensures ok { IfOk result (λ r. named_row (table_of table.now) number columns row.now
-        ≡ Ok (entry_list (option_map (λ p. (p.0, p.1.now)) r))) }
-    ensures err { IfErr result (λ e. named_row (table_of table.now) number columns row.now ≡ Err e) }
+    ensures ok { IfOk result (λ r. named_row (table_in table.now) number columns row.now
+        ≡ Ok (option_map (λ p. (p.0, p.1.now)) r)) }
+    ensures err { IfErr result (λ e. named_row (table_in table.now) number columns row.now ≡ Err e) }
 {
-    match read_cell(&table.rows, number, columns.cell, row) {
-        Ok(None) => Ok(None),
-        Ok(Some(cell)) => match find_name(table, columns.name, read_of(number, row)) {
-            Some(name) => Ok(Some((Some(cell), name))),
-            None => Err(RowError::Bad(RowFault::NoSuchField)),
-        },
-        Err(error) => match find_name(table, columns.name, read_of(number, row)) {
-            Some(_) => Err(error),
-            None => Err(without_name(error)),
-        },
+    let cell = read_cell(table.rows, number, columns.cell, row);
+    let field = find_name(table, columns.name, read_of(number, row));
+    match table.content {
+        FieldContent::Text => with_text(cell, field),
+        FieldContent::Number => with_number(table.rows.quotes, cell, field),
     }
 }
 
 /// What is read of a row, if anything, and the state after it; or the error that ends the table.
 fn find_named<'r>(
-    table: &TableOptions,
+    table: &TableForm<'_>,
     state: TableState,
     row: Row<'r>,
     inside: bool,
@@ -108,14 +148,17 @@ fn find_named<'r>(
     ensures more { IfOk result (λ r. state.number + 1 ≤ r.1.number) }
     ensures number { IfOk result (λ r. r.1.number ≡ next_number state.number (line_of row.entry)) }
     ensures ok { IfOk result (λ r.
-        named_found (table_of table.now) state.number state.columns (line_of row.entry, inside)
-        ≡ record { cells = Ok (entry_list (option_map (λ p. (p.0, p.1.now)) r.0)); columns = r.1.columns }) }
+        named_found (table_in table.now) state.number state.columns (line_of row.entry, inside)
+        ≡ record {
+          cells = Ok (entry_list state.number (option_map (λ p. (p.0, p.1.now)) r.0));
+          columns = r.1.columns;
+        }) }
     ensures err { IfErr result (λ e.
-        (named_found (table_of table.now) state.number state.columns (line_of row.entry, inside)).cells
+        (named_found (table_in table.now) state.number state.columns (line_of row.entry, inside)).cells
         ≡ Err e) }
 {
     let number = state.number;
-    if let Some(fault) = malformed(&table.rows, b"", number, row, inside) {
+    if let Some(fault) = malformed(table.rows, b"", number, row, inside) {
         return Err(AnswerError::AtRow(number, RowError::Bad(fault)));
     }
     let read = read_of(number, row.body);
@@ -137,7 +180,7 @@ fn find_named<'r>(
     }
 }
 
-/// A job over the cells of a table with their names.
+/// A job over the cells of a table with the second fields of their rows.
 pub trait NamedJob {
     /// A number that grows by one at most for each cell.
     ghost count: { Self → ℕ };
@@ -145,11 +188,12 @@ pub trait NamedJob {
     /// From the one to the other these entries were taken, in this order.
     ghost taken: { Self → List Entry → Self → Type 0 };
 
-    /// Takes a cell and its name, without the blanks at both ends; or, if `cell` is `None`, the name in
-    /// the header of the column of names. `Fault::Memory` if there is no memory for them.
-    fn take(&mut self, cell: Option<Cell>, name: &[u8]) -> Result<(), RunError>
+    /// Takes a cell, the second field of its row, without the blanks at both ends, and the row's number;
+    /// or, if `cell` is `None`, the same of a header. `Fault::Memory` if there is no memory for them.
+    fn take(&mut self, cell: Option<Cell>, field: &[u8], row: u64) -> Result<(), RunError>
         requires few { count self.old < 2 ^ 63 }
-        ensures ok { OnOk result (taken self.old ((cell, name.now) ∷ []) self.new) }
+        ensures ok { OnOk result
+            (taken self.old (record { cell = cell; field = field.now; row = row } ∷ []) self.new) }
         ensures counted { count self.new ≤ count self.old + 1 }
         ensures err { IfErr result (λ e. e ≡ refusal.Fault Memory) };
 
@@ -159,12 +203,12 @@ pub trait NamedJob {
         taken u (xs ++ ys) w };
 }
 
-/// A job over rows that gives their cells with their names to a job over these. It knows the state
+/// A job over rows that gives their cells and second fields to a job over these. It knows the state
 /// before the next row.
 #[derive(Drop)]
 struct NamedRows<'f, V: NamedJob> {
     job: V,
-    table: &'f TableOptions,
+    table: &'f TableForm<'f>,
     state: TableState,
     ghost few: { V.count job ≤ state.number },
 }
@@ -208,14 +252,15 @@ impl<'f, V: NamedJob> JobContract for NamedRows<'f, V> {
 
 impl<'f, V: NamedJob> Job for NamedRows<'f, V> {
     fn take(&mut self, row: &[u8], inside: bool) -> Result<(), RunError> {
+        let number = self.state.number;
         match find_named(self.table, self.state, row_of(row), inside) {
             Ok((None, state)) => {
                 self.state = state;
                 Ok(())
             }
-            Ok((Some((cell, name)), state)) => {
+            Ok((Some((cell, field)), state)) => {
                 self.state = state;
-                self.job.take(cell, name)
+                self.job.take(cell, field, number)
             }
             Err(error) => Err(RunError::Error(error)),
         }
@@ -223,11 +268,11 @@ impl<'f, V: NamedJob> Job for NamedRows<'f, V> {
 }
 
 /// The state at the beginning of a table.
-fn first_table_state(table: &TableOptions) -> TableState
+fn first_table_state(table: &TableForm<'_>) -> TableState
     ensures number { result.number ≡ 1 }
-    ensures columns { result.columns ≡ table_first (table_of table.now) }
+    ensures columns { result.columns ≡ table_first (table_in table.now) }
 {
-    let columns = match (first_state(&table.rows).columns, &table.name) {
+    let columns = match (first_state(table.rows).columns, table.field) {
         (Some(cell), CellField::Number(number)) => Some(TableColumns {
             cell,
             name: *number as usize - 1,
@@ -238,31 +283,31 @@ fn first_table_state(table: &TableOptions) -> TableState
 }
 
 /// Ends a table, all of whose rows are read.
-fn end_table(table: &TableOptions, state: TableState) -> Result<(), AnswerError>
-    ensures ok { OnOk result (named_end (table_of table.now) state.columns ≡ Ok []) }
-    ensures err { IfErr result (λ e. named_end (table_of table.now) state.columns ≡ Err e) }
+fn end_table(table: &TableForm<'_>, state: TableState) -> Result<(), AnswerError>
+    ensures ok { OnOk result (named_end (table_in table.now) state.columns ≡ Ok []) }
+    ensures err { IfErr result (λ e. named_end (table_in table.now) state.columns ≡ Err e) }
 {
-    match (state.columns, &table.rows.field, &table.name) {
+    match (state.columns, &table.rows.field, table.field) {
         (Some(_), _, _) => Ok(()),
         (None, CellField::Number(_), CellField::Number(_)) => Ok(()),
         _ => Err(AnswerError::Column(ColumnError::NotFound)),
     }
 }
 
-/// Has the cells of a table with their names taken, read in pages.
+/// Has the cells and second fields of a table taken, read in pages.
 fn take_named_pages<V: NamedJob + Drop, R: Source>(
     job: V,
-    table: &TableOptions,
+    table: &TableForm<'_>,
     input: &mut R,
     page: &mut Vec<u8>,
 ) -> Result<V, RunError>
     requires first { V.count job ≡ 0 }
     requires page { LONGEST + PAGE ≤ vec_capacity page.old }
     ensures taken { IfOk result (λ after. (entries : List Entry)
-        × AllNamedRead (table_of table.now) (Ok entries) (R.left input.old) (R.left input.new)
+        × AllNamedRead (table_in table.now) (Ok entries) (R.left input.old) (R.left input.new)
         × V.taken job entries after) }
     ensures sound { IfOk result (λ after. R.has_failed input.new ≡ R.has_failed input.old) }
-    ensures refused { IfErr result (λ e. RefusesNamed (table_of table.now)
+    ensures refused { IfErr result (λ e. RefusesNamed (table_in table.now)
         (R.left input.old) (R.left input.new) (R.has_failed input.old) (R.has_failed input.new) e) }
 {
     let mut rows = NamedRows {
@@ -295,9 +340,9 @@ fn take_named_pages<V: NamedJob + Drop, R: Source>(
     }
 }
 
-/// Has a job take the cells of a table with their names, one after another, in their order, and returns
-/// it. A header is taken as the name of the column of names, without a cell. Empty rows, and rows whose
-/// cell is missing, are passed over.
+/// Has a job take the cells of a table with the second fields of their rows, one after another, in their
+/// order, and returns it. A header is taken by its own second field, without a cell. Empty rows, and rows
+/// whose cell is missing, are passed over.
 ///
 /// # Errors
 ///
@@ -306,23 +351,33 @@ fn take_named_pages<V: NamedJob + Drop, R: Source>(
 /// - `AnswerError::Column` if a column that the options name is not one field of the header; the
 ///   cell's is looked for first.
 /// - `AnswerError::AtRow` with the number of the first row that is malformed or faulty, or whose index
-///   is not a valid cell, or that has a cell and no field for the name.
+///   is not a valid cell, or that has a cell and no second field, or none with a number if `content` is
+///   `FieldContent::Number`.
 /// - `Fault::Read` if a read fails, or the end is not found in 2^40 reads.
 /// - `Fault::Memory` if there is no memory for the page, or the job has none for a cell.
 pub fn take_named_cells<V: NamedJob + Drop, R: Source>(
     alloc: Global,
     job: V,
-    table: &TableOptions,
+    rows: &RowOptions,
+    field: &CellField,
+    content: FieldContent,
     input: &mut R,
 ) -> Result<V, RunError>
-    requires { V.count job ≡ 0 }
+    requires none { V.count job ≡ 0 }
+    requires counted { is_counted field.now ≡ true }
     ensures taken { IfOk result (λ after. (entries : List Entry)
-        × AllNamedRead (table_of table.now) (Ok entries) (R.left input.old) (R.left input.new)
+        × AllNamedRead (table_of rows.now field.now content) (Ok entries)
+        (R.left input.old) (R.left input.new)
         × V.taken job entries after) }
     ensures sound { IfOk result (λ after. R.has_failed input.new ≡ R.has_failed input.old) }
-    ensures refused { IfErr result (λ e. RefusesNamed (table_of table.now)
+    ensures refused { IfErr result (λ e. RefusesNamed (table_of rows.now field.now content)
         (R.left input.old) (R.left input.new) (R.has_failed input.old) (R.has_failed input.new) e) }
 {
     let mut page = row_page(alloc, LONGEST, PAGE)?;
-    take_named_pages(job, table, input, &mut page)
+    let table = TableForm {
+        rows,
+        field,
+        content,
+    };
+    take_named_pages(job, &table, input, &mut page)
 }

@@ -2,7 +2,7 @@
 
 ghost use Rattle.std.specs.Prelude.{◌≡◌, ◌+◌, ◌<◌, ◌≤◌, ◌++◌, ◌∷◌, ℕ, List, [], length, get_or, cond, Some, IfOk, IfNone, IfSome, OnErr, OnOk, vec_len, vec_capacity, bytes_eq};
 ghost use Rattle.std.specs.HashMap.{get_by};
-ghost use Rattle.h3_rows.specs.Areas.{AreWithin, name_text, names_in, number_in, place_of, with_name};
+ghost use Rattle.h3_rows.specs.Areas.{AreWithin, name_text, names_in, number_for, place_of, with_name};
 
 use crate::fields::unquoted;
 use std::alloc::{AllocError, Global};
@@ -108,7 +108,7 @@ impl Names {
     /// `AllocError` if there is no memory for it, or there are 2^32 - 1 names already.
     pub fn number_of(&mut self, alloc: Global, name: &[u8]) -> Result<u32, AllocError>
         ensures number { IfOk result (λ n. n
-            ≡ number_in self.old.quotes (names_in self.old.bytes.items self.old.spans.items) name.now) }
+            ≡ number_for self.old.quotes (names_in self.old.bytes.items self.old.spans.items) name.now) }
         ensures names { OnOk result (names_in self.new.bytes.items self.new.spans.items
             ≡ with_name self.old.quotes (names_in self.old.bytes.items self.old.spans.items) name.now) }
         ensures quotes { self.new.quotes ≡ self.old.quotes }

@@ -1,20 +1,47 @@
-//! How far a table is read in which one field has a cell, and another a name.
+//! How a table is read in which one field has a cell, and a second one a text or a number; and how far.
 
-ghost use Rattle.std.specs.Prelude.{◌≡◌, ◌≤◌, ◌<◌, ◌+◌, ◌^◌, length};
+ghost use Rattle.std.specs.Prelude.{◌≡◌, ◌≤◌, ◌<◌, ◌+◌, ◌^◌, true, length};
+ghost use Rattle.h3_requests.specs.Rows.{is_counted};
 ghost use Rattle.h3_rows.specs.Line.{line_of};
 ghost use Rattle.h3_rows.specs.Row.{next_number};
 
 use crate::reading::feeds;
 use crate::row::Row;
 use crate::state::Columns;
+use h3_requests::{CellField, RowOptions};
 
-/// Where a row's cell is, and its name.
+/// What the second field of a row has.
+#[derive(Clone, Copy, Debug, Drop, Eq, PartialEq)]
+pub enum FieldContent {
+    /// A text, such as a name. A row that has a cell has to have the field.
+    Text,
+
+    /// A number. A row that has a cell has to have the field, with a number in it; if it is blank, that is 0.
+    Number,
+}
+
+/// How a table is read.
+#[derive(Clone, Copy, Drop)]
+pub struct TableForm<'f> {
+    /// How its rows are read, and which field has the cells.
+    pub rows: &'f RowOptions,
+
+    /// Which field is the second one.
+    pub field: &'f CellField,
+
+    /// What that has.
+    pub content: FieldContent,
+
+    ghost counted: { is_counted field.now ≡ true },
+}
+
+/// Where a row's cell is, and its second field.
 #[derive(Clone, Copy, Drop)]
 pub struct TableColumns {
     /// Where the cell is, and how many fields a row has.
     pub cell: Columns,
 
-    /// How many fields are before the name's.
+    /// How many fields are before the second one.
     pub name: usize,
 }
 

@@ -22,12 +22,14 @@ returns-in_err-last-clause-err g c =
     let said = c.in_err-last.ensures.err in
     let out = sink_use g.W.Sink.taken g.W.Sink.has_failed c.args.out.now c.answer_cell.new.out in
     rw (p.1, p.2) (breaks_step c.args.state k (line_of c.args.row) (mark ++ said.text) held _ _ out known
-    (marked_goes mark (line_of c.args.row) said.text (state_of c.args.state held) _ (said.is (state_of c.args.state held)))
+    (marked_goes mark (line_of c.args.row) said.text (state_of c.args.state held) _
+    (said.is (state_of c.args.state held)))
     (marked_breaks c.args.end c.args.mark c.args.block.now said.text out _ said.breaks))
 
 pub returns-in_err-last-in-Err-clause-err : goal.returns-in_err-last-in-Err-clause-err
 returns-in_err-last-in-Err-clause-err g c =
-    let p = err_from_is_err_and c.from_residual-in_err-last-in-Err.result c.from_residual-in_err-last-in-Err.ensures.1 in
+    let p =
+    err_from_is_err_and c.from_residual-in_err-last-in-Err.result c.from_residual-in_err-last-in-Err.ensures.1 in
     let (k, known) = c.requires.known in
     let start = c.args.end + c.args.mark in
     let held = take c.args.end c.args.block.now in
@@ -61,8 +63,10 @@ returns-in_ok-last-in-Err-clause-ok g c =
     subst (λ l. Moves g.W.Sink.taken g.W.Sink.has_failed (l ++ row) after c.args.out.now c.put_unanswered.new.out) kept
     (subst (λ s. Moves g.W.Sink.taken g.W.Sink.has_failed (take start c.answer_cell.new.block ++ row) after s c.put_unanswered.new.out) left (rw c.error_text.ensures at c.in_ok-last-in-Err.ensures.ok)) in
     let w = c.with_error.ensures in
-    puts_marked g.W.Sink.taken g.W.Sink.has_failed mark form c.args.state c.with_error.result k (line_of c.args.row) held after c.in-Err.error _ _ _ known c.if-job.true w.number w.columns w.kept
-    (faulty (state_of c.args.state held)) (marked_moves g.W.Sink.taken g.W.Sink.has_failed c.args.end c.args.mark c.args.block.now row after _ _ moves)
+    puts_marked g.W.Sink.taken g.W.Sink.has_failed mark form c.args.state c.with_error.result k
+    (line_of c.args.row) held after c.in-Err.error _ _ _ known c.if-job.true w.number w.columns w.kept
+    (faulty (state_of c.args.state held))
+    (marked_moves g.W.Sink.taken g.W.Sink.has_failed c.args.end c.args.mark c.args.block.now row after _ _ moves)
 
 pub returns-in_err-room-in-Ok-clause-err : goal.returns-in_err-room-in-Ok-clause-err
 returns-in_err-room-in-Ok-clause-err g c =
@@ -76,7 +80,8 @@ returns-in_err-room-in-Ok-clause-err g c =
     let broken = breaks_on g.W.Sink.taken g.W.Sink.has_failed (take start c.args.block.now ++ said.text)
     (take c.in-Ok.last c.answer_cell.new.block) _ _ _ _ said.moves c.in_err-room-in-Ok.ensures.err in
     rw (p.1, p.2) (breaks_step c.args.state k (line_of c.args.row) (mark ++ said.text) held _ _ out known
-    (marked_goes mark (line_of c.args.row) said.text (state_of c.args.state held) _ (said.is (state_of c.args.state held)))
+    (marked_goes mark (line_of c.args.row) said.text (state_of c.args.state held) _
+    (said.is (state_of c.args.state held)))
     (marked_breaks c.args.end c.args.mark c.args.block.now said.text out _ broken))
 
 pub returns-in_ok-room-in-Ok-clause-ok : goal.returns-in_ok-room-in-Ok-clause-ok
@@ -92,7 +97,8 @@ returns-in_ok-room-in-Ok-clause-ok g c =
     _ _ _ said.moves c.in_ok-room-in-Ok.ensures.ok in
     puts c.args.state c.passed.result k known (line_of c.args.row) held g.W.Sink.taken
     g.W.Sink.has_failed _ (mark ++ said.text) after _ _ p.number p.columns p.kept
-    (marked_goes mark (line_of c.args.row) said.text (state_of c.args.state held) _ (said.is (state_of c.args.state held)))
+    (marked_goes mark (line_of c.args.row) said.text (state_of c.args.state held) _
+    (said.is (state_of c.args.state held)))
     (marked_moves g.W.Sink.taken g.W.Sink.has_failed c.args.end c.args.mark c.args.block.now said.text after _ _ moves)
 
 pub returns-in-Err-2-clause-err : goal.returns-in-Err-2-clause-err
@@ -102,12 +108,17 @@ returns-in-Err-2-clause-err g c =
     let held = take end c.args.block.now in
     let mark = mark_in end c.args.mark c.args.block.now in
     let form = form_of_job g.F.RowFunction.counts_quotes c.args.job.now in
-    let kept : take start c.answer_cell.new.block ≡ take start c.args.block.now = rw c.in-Err.is at c.in_ok-last.ensures.kept in
+    let kept : take start c.answer_cell.new.block ≡ take start c.args.block.now =
+    rw c.in-Err.is at c.in_ok-last.ensures.kept in
     let left : c.answer_cell.new.out ≡ c.args.out.now = rw c.in-Err.is at c.in_ok-last.ensures.left in
     let faulty = rw c.in-Err.is at c.in_ok-last.ensures.faulty in
-    let same : take end c.answer_cell.new.block ≡ held = sym (take-take end start c.answer_cell.new.block (omega arith)) ∙ ap (take end) kept ∙ take-take end start c.args.block.now (omega arith) in
+    let same : take end c.answer_cell.new.block ≡ held =
+    sym (take-take end start c.answer_cell.new.block (omega arith)) ∙ ap (take end) kept
+    ∙ take-take end start c.args.block.now (omega arith) in
     let out = sink_use g.W.Sink.taken g.W.Sink.has_failed c.args.out.now c.refuse_row.new.out in
     let ends : EndsBy (record { output = held; ending = Err (AtRow c.args.state.number c.in-Err.error) }) c.refuse_row.result out =
-    subst (λ l. EndsBy (record { output = l; ending = Err (AtRow c.args.state.number c.in-Err.error) }) c.refuse_row.result out) same
+    subst (λ l. EndsBy
+    (record { output = l; ending = Err (AtRow c.args.state.number c.in-Err.error) }) c.refuse_row.result out) same
     (subst (λ s. EndsBy (record { output = take end c.answer_cell.new.block; ending = Err (AtRow c.args.state.number c.in-Err.error) }) c.refuse_row.result (sink_use g.W.Sink.taken g.W.Sink.has_failed s c.refuse_row.new.out)) left c.refuse_row.ensures) in
-    refused_marked mark form _ c.args.state (line_of c.args.row) held c.in-Err.error _ out c.if-job.false (faulty (state_of c.args.state held)) ends
+    refused_marked mark form _ c.args.state (line_of c.args.row) held c.in-Err.error _ out c.if-job.false
+    (faulty (state_of c.args.state held)) ends

@@ -24,7 +24,8 @@ returns-then-row-eq0-clause-some g c =
     puts_plain form answer a.state a.columns c.requires.known c.if-state-eq1.false silent a.bytes.now row
     c.in_ok-row.field.now held _ done.puts.text returns c.in_ok-index.index c.in_ok-row.ensures c.in_ok-index.ensures
     (omega (arith, c.if-end-size-ge-BLOCK.false)) some done.puts.is line done.closed
-    (done.puts.put ∙ ap (λ l. l ++ done.puts.text) c.hold_row-at.ensures.held ∙ ap (λ l. front ++ l) (line.split ∙ sym ending))
+    (done.puts.put ∙ ap (λ l. l ++ done.puts.text) c.hold_row-at.ensures.held
+    ∙ ap (λ l. front ++ l) (line.split ∙ sym ending))
 
 pub returns-else-row-eq0-clause-some : goal.returns-else-row-eq0-clause-some
 returns-else-row-eq0-clause-some g c =

@@ -8,4 +8,5 @@ returns-in-None c = unmarked_field c.args.separator c.args.field.now c.in-None.e
 pub returns-in-Some : goal.returns-in-Some
 returns-in-Some c =
     let (first, passes) = c.in-Some.ensures in
-    marked_field c.args.separator c.args.field.now _ first.high passes (sym c.is_padded.ensures ∙ c.if-not-is_padded.false)
+    marked_field c.args.separator c.args.field.now _ first.high passes
+    (sym c.is_padded.ensures ∙ c.if-not-is_padded.false)

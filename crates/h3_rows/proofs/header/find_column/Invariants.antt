@@ -6,7 +6,10 @@ use Rattle.h3_rows.proofs.header.find_column.Given as goal
 
 abbrev pub invariant-loop-rest : goal.invariant-loop-rest
 invariant-loop-rest l = record {
-  places : places_of l.quotes (l.name.0.now ++ l.name.1.now) 0 (cut l.separator l.quotes false l.row) ≡ listed l.found ++ places_of l.quotes (l.name.0.now ++ l.name.1.now) l.place (fields_left l.separator l.quotes (option_map (λ x. x.now) l.rest));
+  places : places_of l.quotes (l.name.0.now ++ l.name.1.now) 0 (cut l.separator l.quotes false l.row)
+      ≡ listed l.found
+      ++ places_of l.quotes (l.name.0.now ++ l.name.1.now) l.place
+      (fields_left l.separator l.quotes (option_map (λ x. x.now) l.rest));
   short : l.place + bytes_left (option_map (λ x. x.now) l.rest) ≤ length l.row + 1;
 }
 

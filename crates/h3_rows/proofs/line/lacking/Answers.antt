@@ -9,7 +9,8 @@ returns-then-own-eq0 c =
     let some : (length c.args.row.now == 0) ≡ false = sym c.is_empty.ensures ∙ c.if-is_empty.false in
     let returns = replicate c.args.returns 13 in
     subst (λ l. returns ≡ lacking returns l) c.row_of-own.ensures
-    (sym (lacks_all returns r.body.now r.returns r.bare (subst (λ l. (length l == 0) ≡ false) (sym c.row_of-own.ensures) some) c.if-own-eq0.true))
+    (sym (lacks_all returns r.body.now r.returns r.bare
+    (subst (λ l. (length l == 0) ≡ false) (sym c.row_of-own.ensures) some) c.if-own-eq0.true))
 
 pub returns-else-own-eq0 : goal.returns-else-own-eq0
 returns-else-own-eq0 c =
@@ -17,4 +18,5 @@ returns-else-own-eq0 c =
     let some : (length c.args.row.now == 0) ≡ false = sym c.is_empty.ensures ∙ c.if-is_empty.false in
     let returns = replicate c.args.returns 13 in
     subst (λ l. [] ≡ lacking returns l) c.row_of-own.ensures
-    (sym (lacks_none returns r.body.now r.returns r.bare (subst (λ l. (length l == 0) ≡ false) (sym c.row_of-own.ensures) some) c.if-own-eq0.false))
+    (sym (lacks_none returns r.body.now r.returns r.bare
+    (subst (λ l. (length l == 0) ≡ false) (sym c.row_of-own.ensures) some) c.if-own-eq0.false))

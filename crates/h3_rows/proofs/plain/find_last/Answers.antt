@@ -7,7 +7,8 @@ pub returns-then-rest-end : goal.returns-then-rest-end
 returns-then-rest-end c =
     let a = c.args in
     let r = c.requires in
-    ends_here a.separator a.quotes r.quote r.feed r.carriage a.columns a.rest.now a.end (rw c.in_default.is refl) r.within
+    ends_here a.separator a.quotes r.quote r.feed r.carriage a.columns a.rest.now a.end
+    (rw c.in_default.is refl) r.within
     r.whole
 
 pub returns-in_default : goal.returns-in_default

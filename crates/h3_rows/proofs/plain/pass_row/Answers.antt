@@ -18,9 +18,11 @@ loop-end-preserved c =
     (split_at rest end c.args.separator c.in_ok-end.ensures.within stops) c.in_ok-end.ensures.whole)
 
 pub returns-then-rest-end-clause-within : goal.returns-then-rest-end-clause-within
-returns-then-rest-end-clause-within c = row_within c.args.separator c.args.quotes c.requires.quote c.requires.feed c.requires.carriage
+returns-then-rest-end-clause-within c =
+    row_within c.args.separator c.args.quotes c.requires.quote c.requires.feed c.requires.carriage
     c.args.bytes.now c.loop-end.rest.now c.in_ok-end.end c.loop-end.invariant c.in_ok-end.ensures.within
 
 pub returns-then-rest-end-clause-whole : goal.returns-then-rest-end-clause-whole
-returns-then-rest-end-clause-whole c = row_ends c.args.separator c.args.quotes c.requires.quote c.requires.feed c.requires.carriage
+returns-then-rest-end-clause-whole c =
+    row_ends c.args.separator c.args.quotes c.requires.quote c.requires.feed c.requires.carriage
     c.args.bytes.now c.loop-end.rest.now c.in_ok-end.end c.loop-end.invariant c.in_ok-end.ensures.whole

@@ -11,17 +11,26 @@ pub returns-then-options-clause-ok : goal.returns-then-options-clause-ok
 returns-then-options-clause-ok g c =
     let held = take c.args.end c.args.block.now in
     let sep = c.args.options.now.separator in
-    let is : (name : List ℕ) (is_pair : Bool) → sep ∷ (c.args.error.now ++ []) ≡ error_field (columns_form c.args.options.now name is_pair) c.args.error.now = λ name is_pair. rw c.if-options.true (ap (λ l. sep ∷ l) (append-nil c.args.error.now)) in
-    IfOk-weaker c.put_field.result _ _ (λ last k name is_pair. subst (λ l. Moves g.W.Sink.taken g.W.Sink.has_failed (held ++ l) (take last c.put_field.new.block) c.args.out.now c.put_field.new.out) (is name is_pair) k) c.put_field.ensures.ok
+    let is : (name : List ℕ) (is_pair : Bool)
+    → sep ∷ (c.args.error.now ++ []) ≡ error_field (columns_form c.args.options.now name is_pair) c.args.error.now =
+    λ name is_pair. rw c.if-options.true (ap (λ l. sep ∷ l) (append-nil c.args.error.now)) in
+    IfOk-weaker c.put_field.result _ _ (λ last k name is_pair. subst
+    (λ l. Moves g.W.Sink.taken g.W.Sink.has_failed (held ++ l) (take last c.put_field.new.block) c.args.out.now
+    c.put_field.new.out) (is name is_pair) k) c.put_field.ensures.ok
 
 pub returns-then-options-clause-err : goal.returns-then-options-clause-err
 returns-then-options-clause-err g c =
     let held = take c.args.end c.args.block.now in
     let sep = c.args.options.now.separator in
-    let is : (name : List ℕ) (is_pair : Bool) → sep ∷ (c.args.error.now ++ []) ≡ error_field (columns_form c.args.options.now name is_pair) c.args.error.now = λ name is_pair. rw c.if-options.true (ap (λ l. sep ∷ l) (append-nil c.args.error.now)) in
-    IfErr-weaker c.put_field.result _ _ (λ e k name is_pair. subst (λ l. Breaks (held ++ l) (sink_use g.W.Sink.taken g.W.Sink.has_failed c.args.out.now c.put_field.new.out) e) (is name is_pair) k) c.put_field.ensures.err
+    let is : (name : List ℕ) (is_pair : Bool)
+    → sep ∷ (c.args.error.now ++ []) ≡ error_field (columns_form c.args.options.now name is_pair) c.args.error.now =
+    λ name is_pair. rw c.if-options.true (ap (λ l. sep ∷ l) (append-nil c.args.error.now)) in
+    IfErr-weaker c.put_field.result _ _ (λ e k name is_pair. subst
+    (λ l. Breaks (held ++ l) (sink_use g.W.Sink.taken g.W.Sink.has_failed c.args.out.now c.put_field.new.out) e)
+    (is name is_pair) k) c.put_field.ensures.err
 
 pub returns-clause-ok : goal.returns-clause-ok
 returns-clause-ok g c name is_pair =
     let held = take c.args.end c.args.block.now in
-    rw c.if-options.false (subst (λ l. Moves g.W.Sink.taken g.W.Sink.has_failed l held c.args.out.now c.args.out.now) (sym (append-nil held)) (moves_none g.W.Sink.taken g.W.Sink.has_failed held c.args.out.now))
+    rw c.if-options.false (subst (λ l. Moves g.W.Sink.taken g.W.Sink.has_failed l held c.args.out.now c.args.out.now)
+    (sym (append-nil held)) (moves_none g.W.Sink.taken g.W.Sink.has_failed held c.args.out.now))

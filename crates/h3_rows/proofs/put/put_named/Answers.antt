@@ -16,30 +16,46 @@ returns-in_err-after_row-clause-err g c =
     let r = c.args.row in
     let sep = c.args.job.now.options.now.separator in
     let names = flat_map (λ n. sep ∷ n) (form_of_job g.F.RowFunction.counts_quotes c.args.job.now).names in
-    let is : r.body.now ++ (names ++ row_ending (line_of r)) ≡ header_with sep (line_of r) (form_of_job g.F.RowFunction.counts_quotes c.args.job.now).names = ap (λ l. l ++ (names ++ row_ending (line_of r))) (sym (body_of_row r.body.now r.returns r.bare)) in
-    rw (p.1, p.2) (breaks_first (take c.args.end c.args.block.now) r.body.now _ _ (sink_use g.W.Sink.taken g.W.Sink.has_failed c.args.out.now c.put_bytes.new.out) _ is c.in_err-after_row.ensures.err)
+    let is : r.body.now ++ (names ++ row_ending (line_of r))
+    ≡ header_with sep (line_of r) (form_of_job g.F.RowFunction.counts_quotes c.args.job.now).names =
+    ap (λ l. l ++ (names ++ row_ending (line_of r))) (sym (body_of_row r.body.now r.returns r.bare)) in
+    rw (p.1, p.2) (breaks_first (take c.args.end c.args.block.now) r.body.now _ _
+    (sink_use g.W.Sink.taken g.W.Sink.has_failed c.args.out.now c.put_bytes.new.out) _
+    is c.in_err-after_row.ensures.err)
 
 pub returns-in_err-after_names-clause-err : goal.returns-in_err-after_names-clause-err
 returns-in_err-after_names-clause-err g c =
-    let p = err_from_is_err_and c.from_residual-in_err-after_names.result c.from_residual-in_err-after_names.ensures.1 in
+    let p =
+    err_from_is_err_and c.from_residual-in_err-after_names.result c.from_residual-in_err-after_names.ensures.1 in
     let r = c.args.row in
     let sep = c.args.job.now.options.now.separator in
     let names = flat_map (λ n. sep ∷ n) (form_of_job g.F.RowFunction.counts_quotes c.args.job.now).names in
-    let is : r.body.now ++ (names ++ row_ending (line_of r)) ≡ header_with sep (line_of r) (form_of_job g.F.RowFunction.counts_quotes c.args.job.now).names = ap (λ l. l ++ (names ++ row_ending (line_of r))) (sym (body_of_row r.body.now r.returns r.bare)) in
-    rw (p.1, p.2) (breaks_second g.W.Sink.taken g.W.Sink.has_failed (take c.args.end c.args.block.now) r.body.now names _ _ _ _ _ _ _ is c.in_ok-after_row.ensures.ok c.in_err-after_names.ensures.err)
+    let is : r.body.now ++ (names ++ row_ending (line_of r))
+    ≡ header_with sep (line_of r) (form_of_job g.F.RowFunction.counts_quotes c.args.job.now).names =
+    ap (λ l. l ++ (names ++ row_ending (line_of r))) (sym (body_of_row r.body.now r.returns r.bare)) in
+    rw (p.1, p.2) (breaks_second g.W.Sink.taken g.W.Sink.has_failed (take c.args.end c.args.block.now) r.body.now names
+    _ _ _ _ _ _ _ is c.in_ok-after_row.ensures.ok c.in_err-after_names.ensures.err)
 
 pub returns-clause-ok : goal.returns-clause-ok
 returns-clause-ok g c =
     let r = c.args.row in
     let sep = c.args.job.now.options.now.separator in
     let names = flat_map (λ n. sep ∷ n) (form_of_job g.F.RowFunction.counts_quotes c.args.job.now).names in
-    let is : r.body.now ++ (names ++ row_ending (line_of r)) ≡ header_with sep (line_of r) (form_of_job g.F.RowFunction.counts_quotes c.args.job.now).names = ap (λ l. l ++ (names ++ row_ending (line_of r))) (sym (body_of_row r.body.now r.returns r.bare)) in
-    IfOk-weaker c.put_ending.result _ _ (λ last k. moves_three g.W.Sink.taken g.W.Sink.has_failed (take c.args.end c.args.block.now) r.body.now names _ _ _ _ _ _ _ _ _ is c.in_ok-after_row.ensures.ok c.in_ok-after_names.ensures.ok k) c.put_ending.ensures.ok
+    let is : r.body.now ++ (names ++ row_ending (line_of r))
+    ≡ header_with sep (line_of r) (form_of_job g.F.RowFunction.counts_quotes c.args.job.now).names =
+    ap (λ l. l ++ (names ++ row_ending (line_of r))) (sym (body_of_row r.body.now r.returns r.bare)) in
+    IfOk-weaker c.put_ending.result _ _ (λ last k. moves_three g.W.Sink.taken g.W.Sink.has_failed (take c.args.end
+    c.args.block.now) r.body.now names _ _ _ _ _ _ _ _ _ is c.in_ok-after_row.ensures.ok
+    c.in_ok-after_names.ensures.ok k) c.put_ending.ensures.ok
 
 pub returns-clause-err : goal.returns-clause-err
 returns-clause-err g c =
     let r = c.args.row in
     let sep = c.args.job.now.options.now.separator in
     let names = flat_map (λ n. sep ∷ n) (form_of_job g.F.RowFunction.counts_quotes c.args.job.now).names in
-    let is : r.body.now ++ (names ++ row_ending (line_of r)) ≡ header_with sep (line_of r) (form_of_job g.F.RowFunction.counts_quotes c.args.job.now).names = ap (λ l. l ++ (names ++ row_ending (line_of r))) (sym (body_of_row r.body.now r.returns r.bare)) in
-    IfErr-weaker c.put_ending.result _ _ (λ e k. breaks_third g.W.Sink.taken g.W.Sink.has_failed (take c.args.end c.args.block.now) r.body.now names _ _ _ _ _ _ _ _ _ is c.in_ok-after_row.ensures.ok c.in_ok-after_names.ensures.ok k) c.put_ending.ensures.err
+    let is : r.body.now ++ (names ++ row_ending (line_of r))
+    ≡ header_with sep (line_of r) (form_of_job g.F.RowFunction.counts_quotes c.args.job.now).names =
+    ap (λ l. l ++ (names ++ row_ending (line_of r))) (sym (body_of_row r.body.now r.returns r.bare)) in
+    IfErr-weaker c.put_ending.result _ _ (λ e k. breaks_third g.W.Sink.taken g.W.Sink.has_failed (take c.args.end
+    c.args.block.now) r.body.now names _ _ _ _ _ _ _ _ _ is c.in_ok-after_row.ensures.ok
+    c.in_ok-after_names.ensures.ok k) c.put_ending.ensures.err

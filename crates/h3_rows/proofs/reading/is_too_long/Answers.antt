@@ -10,7 +10,8 @@ returns-then-read_of-gt-LONGEST_ROW c =
     let r = c.args.row in
     let big = c.if-read_of-gt-LONGEST_ROW.true in
     let more : nat_lt 1048575 (length c.read_of.result.now) ≡ true = grind (arith, nat_tests) in
-    let read : read_of c.args.number (row_body (line_of r)) ≡ c.read_of.result.now = ap (read_of c.args.number) (body_of_row r.body.now r.returns r.bare) ∙ sym c.read_of.ensures in
+    let read : read_of c.args.number (row_body (line_of r)) ≡ c.read_of.result.now =
+    ap (read_of c.args.number) (body_of_row r.body.now r.returns r.bare) ∙ sym c.read_of.ensures in
     rw (read, more) refl
 
 pub returns-else-read_of-gt-LONGEST_ROW : goal.returns-else-read_of-gt-LONGEST_ROW
@@ -18,5 +19,6 @@ returns-else-read_of-gt-LONGEST_ROW c =
     let r = c.args.row in
     let small = c.if-read_of-gt-LONGEST_ROW.false in
     let short : nat_lt 1048575 (length c.read_of.result.now) ≡ false = grind (arith, nat_tests) in
-    let read : read_of c.args.number (row_body (line_of r)) ≡ c.read_of.result.now = ap (read_of c.args.number) (body_of_row r.body.now r.returns r.bare) ∙ sym c.read_of.ensures in
+    let read : read_of c.args.number (row_body (line_of r)) ≡ c.read_of.result.now =
+    ap (read_of c.args.number) (body_of_row r.body.now r.returns r.bare) ∙ sym c.read_of.ensures in
     rw (read, short, row_length r.body.now r.returns) refl

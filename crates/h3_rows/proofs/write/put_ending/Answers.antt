@@ -9,7 +9,9 @@ pub returns-in_err-after_returns-clause-err : goal.returns-in_err-after_returns-
 returns-in_err-after_returns-clause-err g c =
     let p = err_from_is_err_and c.from_residual.result c.from_residual.ensures.1 in
     let r = c.args.row in
-    rw (p.1, p.2) (breaks_first (take c.args.end c.args.block.now) (replicate r.returns 13) (10 ∷ []) _ (sink_use g.W.Sink.taken g.W.Sink.has_failed c.args.out.now c.put_returns.new.out) _ (ap (λ l. l ++ 10 ∷ []) (sym (returns_of_row r.body.now r.returns r.bare))) c.in_err-after_returns.ensures.err)
+    rw (p.1, p.2) (breaks_first (take c.args.end c.args.block.now) (replicate r.returns 13) (10 ∷ []) _
+    (sink_use g.W.Sink.taken g.W.Sink.has_failed c.args.out.now c.put_returns.new.out) _
+    (ap (λ l. l ++ 10 ∷ []) (sym (returns_of_row r.body.now r.returns r.bare))) c.in_err-after_returns.ensures.err)
 
 pub returns-clause-ok : goal.returns-clause-ok
 returns-clause-ok g c =

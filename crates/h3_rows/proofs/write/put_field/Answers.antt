@@ -7,12 +7,17 @@ use Rattle.h3_rows.proofs.write.put_field.Goals as goal
 pub returns-in_err-after_separator-clause-err : goal.returns-in_err-after_separator-clause-err
 returns-in_err-after_separator-clause-err g c =
     let p = err_from_is_err_and c.from_residual.result c.from_residual.ensures.1 in
-    rw (p.1, p.2) (breaks_first (take c.args.end c.args.block.now) (c.args.separator ∷ []) (c.args.first.now ++ c.args.more.now) _ (sink_use g.W.Sink.taken g.W.Sink.has_failed c.args.out.now c.put_bytes.new.out) _ refl c.in_err-after_separator.ensures.err)
+    rw (p.1, p.2) (breaks_first (take c.args.end c.args.block.now) (c.args.separator ∷ []) (c.args.first.now ++
+    c.args.more.now) _ (sink_use g.W.Sink.taken g.W.Sink.has_failed c.args.out.now c.put_bytes.new.out) _
+    refl c.in_err-after_separator.ensures.err)
 
 pub returns-in_err-after_first-clause-err : goal.returns-in_err-after_first-clause-err
 returns-in_err-after_first-clause-err g c =
-    let p = err_from_is_err_and c.from_residual-in_err-after_first.result c.from_residual-in_err-after_first.ensures.1 in
-    rw (p.1, p.2) (breaks_second g.W.Sink.taken g.W.Sink.has_failed (take c.args.end c.args.block.now) (c.args.separator ∷ []) c.args.first.now c.args.more.now _ _ _ _ _ _ refl c.in_ok-after_separator.ensures.ok c.in_err-after_first.ensures.err)
+    let p =
+    err_from_is_err_and c.from_residual-in_err-after_first.result c.from_residual-in_err-after_first.ensures.1 in
+    rw (p.1, p.2) (breaks_second g.W.Sink.taken g.W.Sink.has_failed (take c.args.end c.args.block.now)
+    (c.args.separator ∷ []) c.args.first.now c.args.more.now _ _ _ _ _ _ refl
+    c.in_ok-after_separator.ensures.ok c.in_err-after_first.ensures.err)
 
 pub returns-clause-ok : goal.returns-clause-ok
 returns-clause-ok g c =

@@ -12,17 +12,23 @@ loop-left-init g c =
     let held = take c.args.end c.args.block.now in record {
       within = c.requires;
       fewer = omega arith;
-      moves = rw none (subst (λ l. Moves g.W.Sink.taken g.W.Sink.has_failed l held c.args.out.now c.args.out.now) (sym (append-nil held)) (moves_none g.W.Sink.taken g.W.Sink.has_failed held c.args.out.now));
+      moves =
+          rw none (subst (λ l. Moves g.W.Sink.taken g.W.Sink.has_failed l held c.args.out.now c.args.out.now)
+          (sym (append-nil held)) (moves_none g.W.Sink.taken g.W.Sink.has_failed held c.args.out.now));
     }
 
 pub loop-left-preserved : goal.loop-left-preserved
 loop-left-preserved g c =
     let done = c.args.count - c.loop-left.left in
-    let next : done + 1 ≡ c.args.count - (c.loop-left.left - 1) = omega (arith, c.loop-left-test.true, c.loop-left.invariant.fewer) in
+    let next : done + 1 ≡ c.args.count - (c.loop-left.left - 1) =
+    omega (arith, c.loop-left-test.true, c.loop-left.invariant.fewer) in
     record {
       within = c.in_ok-last.ensures.within;
       fewer = omega (arith, c.loop-left.invariant.fewer);
-      moves = moves_two g.W.Sink.taken g.W.Sink.has_failed (take c.args.end c.args.block.now) (replicate done 13) (13 ∷ []) _ _ _ _ _ _ (replicate_more done 13 ∙ ap (λ n. replicate n 13) next) c.loop-left.invariant.moves c.in_ok-last.ensures.ok;
+      moves =
+          moves_two g.W.Sink.taken g.W.Sink.has_failed (take c.args.end c.args.block.now) (replicate done 13) (13 ∷
+          []) _ _ _ _ _ _
+          (replicate_more done 13 ∙ ap (λ n. replicate n 13) next) c.loop-left.invariant.moves c.in_ok-last.ensures.ok;
     }
 
 pub returns-in_err-last-clause-err : goal.returns-in_err-last-clause-err

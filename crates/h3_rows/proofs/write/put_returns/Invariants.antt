@@ -6,7 +6,8 @@ abbrev pub invariant-loop-left : goal.invariant-loop-left
 invariant-loop-left g l = record {
   within : l.last ≤ 32768;
   fewer : l.left ≤ l.fn.count;
-  moves : Moves g.W.Sink.taken g.W.Sink.has_failed (take l.fn.end l.fn.block ++ replicate (l.fn.count - l.left) 13) (take l.last l.block) l.fn.out l.out;
+  moves : Moves g.W.Sink.taken g.W.Sink.has_failed (take l.fn.end l.fn.block ++ replicate (l.fn.count - l.left) 13)
+      (take l.last l.block) l.fn.out l.out;
 }
 
 abbrev pub decreases-loop-left : goal.decreases-loop-left

@@ -19,5 +19,7 @@ returns-in_err-end-clause-err g c =
 pub returns-clause-ok : goal.returns-clause-ok
 returns-clause-ok g c =
     let r = c.row_of-row.result in
-    let same : replicate r.returns 13 ≡ returns_of c.args.row.now = subst (λ l. replicate r.returns 13 ≡ returns_of l) c.row_of-row.ensures (sym (returns_of_row r.body.now r.returns r.bare)) in
+    let same : replicate r.returns 13 ≡ returns_of c.args.row.now =
+    subst (λ l. replicate r.returns 13 ≡ returns_of l) c.row_of-row.ensures
+    (sym (returns_of_row r.body.now r.returns r.bare)) in
     (search (rules), refl, refl, same)

@@ -13,7 +13,8 @@ pub returns-in_default-clause-none : goal.returns-in_default-clause-none
 returns-in_default-clause-none g c = (answered_none g.W.Sink.taken g.W.Sink.has_failed _ _ _ _, refl, refl, refl)
 
 pub returns-in-None-clause-none : goal.returns-in-None-clause-none
-returns-in-None-clause-none g c = rw c.in-None.ensures.none (answered_none g.W.Sink.taken g.W.Sink.has_failed _ _ _ _, refl, refl, refl)
+returns-in-None-clause-none g c =
+    rw c.in-None.ensures.none (answered_none g.W.Sink.taken g.W.Sink.has_failed _ _ _ _, refl, refl, refl)
 
 pub slice_bounds-result-count : goal.slice_bounds-result-count
 slice_bounds-result-count g c =
@@ -35,9 +36,18 @@ returns-in-Some-put_plain-clause-some g c =
     let p = c.in-Some-put_plain.ensures.some in
     let held = take v.end v.block in
     let held' = take c.in-Some-put_plain.end c.put_plain.new.block in
-    let cuts : CutsAt 10 c.args.quotes false c.args.bytes.now p.row p.after = plain_cuts form answer v.state c.args.bytes.now held held' size returns c.args.quotes c.if-quotes-self.false p in
+    let cuts : CutsAt 10 c.args.quotes false c.args.bytes.now p.row p.after =
+    plain_cuts form answer v.state c.args.bytes.now held held' size returns c.args.quotes c.if-quotes-self.false p
+    in
     rw take_rest (record {
       ended = (p.row, false) ∷ [];
       rows = λ rest. first_cut c.args.quotes c.args.bytes.now p.row p.after size cuts p.size_is rest;
-      takes = (plain_answered g.W.Sink.taken g.W.Sink.has_failed form answer v.state c.count.new.self c.in-Some.columns c.args.bytes.now held held' size returns v.out.now c.in-Some.is c.count.ensures.number c.count.ensures.columns c.count.ensures.kept p, refl, refl, sym p.ending);
+      takes = (
+        plain_answered g.W.Sink.taken g.W.Sink.has_failed form answer v.state c.count.new.self c.in-Some.columns
+            c.args.bytes.now held held' size returns v.out.now c.in-Some.is c.count.ensures.number c.count.ensures.columns
+            c.count.ensures.kept p,
+        refl,
+        refl,
+        sym p.ending,
+      );
     })

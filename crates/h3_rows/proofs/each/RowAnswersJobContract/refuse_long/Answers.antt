@@ -13,5 +13,10 @@ returns g c p long later =
     let bytes = take v.end v.block in
     let form = form_of_job g.F.RowFunction.counts_quotes v.job.now in
     let answer = g.F.RowFunction.answer_of v.job.now.function.now in
-    let step = row_step form answer (state_of v.state bytes) p in
-    (λ last. refused_ends step v.state bytes (Bad TooLong) _ (sink_use g.W.Sink.taken g.W.Sink.has_failed v.out.now c.refuse_row.new.out) (long_ends form answer (state_of v.state bytes) p long) c.refuse_row.ensures (rows_then last form answer step.after later), refl)
+    let step = row_step form answer (state_of v.state bytes) p in (
+      λ last. refused_ends step v.state bytes (Bad TooLong) _
+          (sink_use g.W.Sink.taken g.W.Sink.has_failed v.out.now c.refuse_row.new.out)
+          (long_ends form answer (state_of v.state bytes) p long) c.refuse_row.ensures
+          (rows_then last form answer step.after later),
+      refl,
+    )

@@ -8,5 +8,10 @@ returns-in-None-clause-ok g c = (answered_none g.W.Sink.taken g.W.Sink.has_faile
 
 pub returns-clause-ok : goal.returns-clause-ok
 returns-clause-ok g c =
-    let v = c.args.self.now in
-    (settled_moves g.W.Sink.taken g.W.Sink.has_failed _ v.state _ c.in_default.is (take v.end v.block) _ _ c.in_ok-write_held.ensures.ok.0 c.in_ok-write_held.ensures.ok.1, refl, refl, refl)
+    let v = c.args.self.now in (
+      settled_moves g.W.Sink.taken g.W.Sink.has_failed _ v.state _ c.in_default.is
+          (take v.end v.block) _ _ c.in_ok-write_held.ensures.ok.0 c.in_ok-write_held.ensures.ok.1,
+      refl,
+      refl,
+      refl,
+    )

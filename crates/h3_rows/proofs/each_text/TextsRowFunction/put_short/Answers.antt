@@ -7,5 +7,7 @@ returns-in-Ok-clause-some g c =
     let text = c.in-Ok.text.now in
     record {
       puts = record { text = text ++ 10 ∷ []; is = c.in-Ok.ensures.ok; put = c.hold_row.ensures.held };
-      closed = closed_after (g.F.TextFunction.counts_quotes c.args.self.now.function.now) text c.in-Ok.ensures.line.inside_is;
+      closed =
+          closed_after
+          (g.F.TextFunction.counts_quotes c.args.self.now.function.now) text c.in-Ok.ensures.line.inside_is;
     }

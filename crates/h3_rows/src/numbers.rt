@@ -1,0 +1,28 @@
+//! The numbers in fields.
+
+ghost use Rattle.std.specs.Prelude.{◌≡◌, option_map};
+ghost use Rattle.h3_numbers.specs.Number.{number_units};
+ghost use Rattle.h3_rows.specs.Named.{number_in, number_of_text};
+
+use crate::fields::{field_text, trimmed};
+use h3_numbers::{Number, read_number};
+
+/// The number that a text is; 0 if it is blank.
+fn number_of_text(text: &[u8]) -> Option<Number>
+    ensures { option_map number_units result ≡ number_of_text text.now }
+{
+    if trimmed(text).is_empty() {
+        return Some(Number::zero());
+    }
+    read_number(text)
+}
+
+/// Returns the number in a field, which is 0 if its text is blank; `None` if the text is not a number.
+///
+/// The text of a field is without the blanks at both ends, and then, if quotes count, without a pair of
+/// quotes around it.
+pub fn field_number(quotes: bool, field: &[u8]) -> Option<Number>
+    ensures { option_map number_units result ≡ number_in quotes field.now }
+{
+    number_of_text(field_text(quotes, field))
+}
