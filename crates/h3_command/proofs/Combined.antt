@@ -28,8 +28,10 @@ fine (c ∷ cells) valid =
 abbrev pub CoverAlike : List Address → List Address → Type 0
 CoverAlike a b = (x : Address) → IsCovered a 15 x ↔ IsCovered b 15 x
 
-pub shared_compacts : CoveragesDecideIntersections → (a b first second list copy : List Address) → All IsCell a → All IsCell b → All IsCell list → CoverAlike first a → CoverAlike second b
-    → ((x : Address) → IsCovered list 15 x ↔ (IsCovered first 15 x × IsCovered second 15 x)) → copy ≡ list → compacted copy ≡ intersection a b
+pub shared_compacts : CoveragesDecideIntersections → (a b first second list copy : List Address) → All IsCell a
+    → All IsCell b → All IsCell list → CoverAlike first a → CoverAlike second b
+    → ((x : Address) → IsCovered list 15 x ↔ (IsCovered first 15 x × IsCovered second 15 x)) → copy ≡ list
+    → compacted copy ≡ intersection a b
 shared_compacts law a b first second list copy va vb vl alike_a alike_b covers is =
     ap compacted is
     ∙ law a b list va vb vl (λ x. (
@@ -37,8 +39,10 @@ shared_compacts law a b first second list copy va vb vl alike_a alike_b covers i
       (λ (p, q). (covers x).1 ((alike_a x).1 p, (alike_b x).1 q)),
     ))
 
-pub left_compacts : CoveragesDecideDifferences → (a b first second list : List Address) → All IsCell a → All IsCell b → All IsCell list → CoverAlike first a → CoverAlike second b
-    → ((x : Address) → IsCovered list 15 x ↔ (IsCovered first 15 x × (¬ IsCovered second 15 x))) → compacted list ≡ difference a b
+pub left_compacts : CoveragesDecideDifferences → (a b first second list : List Address) → All IsCell a → All IsCell b
+    → All IsCell list → CoverAlike first a → CoverAlike second b
+    → ((x : Address) → IsCovered list 15 x ↔ (IsCovered first 15 x × (¬ IsCovered second 15 x)))
+    → compacted list ≡ difference a b
 left_compacts law a b first second list va vb vl alike_a alike_b covers =
     law a b list va vb vl (λ x. (
       (λ h. let w = (covers x).0 h in ((alike_a x).0 w.0, (λ q. w.1 ((alike_b x).1 q)))),
@@ -48,16 +52,19 @@ left_compacts law a b first second list va vb vl alike_a alike_b covers =
 -- ---- counts
 
 -- the counts of zones are those of the zones in any order
-pub counts_alike : (a b : List Address) → by_number a ≡ by_number b → ((x : Address) → is_covered a x ≡ is_covered b x) → counts_answer a ≡ counts_answer b
+pub counts_alike : (a b : List Address) → by_number a ≡ by_number b → ((x : Address) → is_covered a x ≡ is_covered b x)
+    → counts_answer a ≡ counts_answer b
 counts_alike a b ordered same =
     fun_ext (λ cells.
-    let outside : count_outside a cells ≡ count_outside b cells = ap (λ p. count_by (λ x. not (p x)) cells) (fun_ext same) in
+    let outside : count_outside a cells ≡ count_outside b cells =
+    ap (λ p. count_by (λ x. not (p x)) cells) (fun_ext same) in
     ap (λ zones. written (flat_map count_line (zone_counts zones cells ++ (None, count_outside a cells) ∷ []))) ordered
     ∙ ap (λ n. written (flat_map count_line (zone_counts (by_number b) cells ++ (None, n) ∷ []))) outside)
 
 -- ---- functions of one index
 
-pub covered_alike : (a b : List Address) → ((x : Address) → is_covered a x ≡ is_covered b x) → region_answer a ≡ region_answer b
+pub covered_alike : (a b : List Address) → ((x : Address) → is_covered a x ≡ is_covered b x)
+    → region_answer a ≡ region_answer b
 covered_alike a b same =
     fun_ext (λ index. ap (λ f. printed truth_line (for_value f (cell_given index))) (fun_ext (λ c. ap Ok (same c))))
 

@@ -23,11 +23,11 @@ use Rattle.h3_lines.specs.declared.run_error.Fault.TheVariants.{Memory, Read, Wr
 use Rattle.h3_lines.specs.declared.run_error.RunError.{RunError}
 use Rattle.h3_lines.specs.declared.run_error.RunError.TheVariants.{Error, Fault}
 use Rattle.h3_lines.specs.Write.{IsLeft, Reports, SinkUse, Writes}
-use Rattle.h3_command.specs.Answer.{Request, about_list, about_numbered_list, about_rows, about_table, answer_or_error_at, with_table, unless_faulty}
+use Rattle.h3_command.specs.Answer.{Request, about_list, about_numbered_list, about_rows, about_table, about_table_rows, answer_or_error_at, with_table, unless_faulty}
 use Rattle.h3_command.specs.Areas.{areas_of_file}
 use Rattle.h3_command.specs.Files.{file_cells, unless_refused}
-use Rattle.h3_command.specs.Answer.Request.{of_areas_and_lines, of_areas_and_list, of_file_and_lines, of_file_and_list, of_lines, of_list, of_numbered_list, of_table, of_table_and_lines, plain}
-use Rattle.h3_command.specs.Run.{Answers, Ends, EndsLines, EndsList, EndsNumberedList, Gives, IsReadSoFar, IsReadWhole, ReadFails, RefusesAreas, RefusesFile, RefusesInput, RefusesTableFile, Runs, RunsOutOfMemory, Streams, WritesOfList, WritesOfNumberedList, WritesOfRows, WritesReading}
+use Rattle.h3_command.specs.Answer.Request.{of_areas_and_lines, of_areas_and_list, of_areas_and_rows, of_file_and_lines, of_file_and_list, of_file_and_rows, of_lines, of_list, of_numbered_list, of_rows, of_table, of_table_and_lines, plain}
+use Rattle.h3_command.specs.Run.{Answers, Ends, EndsEntries, EndsLines, EndsList, EndsNumberedList, Gives, IsReadSoFar, IsReadWhole, ReadFails, RefusesAreas, RefusesEntries, RefusesFile, RefusesInput, RefusesTableFile, Runs, RunsOutOfMemory, Streams, WritesOfList, WritesOfNumberedList, WritesOfRows, WritesReading}
 use Rattle.h3_rows.specs.Each.{EndsRows}
 use Rattle.h3_rows.specs.Named.{Entry}
 use Rattle.h3_rows.specs.Named.{Table as NamedTable}
@@ -40,7 +40,9 @@ use Rattle.std.specs.Io.KnownBytes.{Consumes}
 use Rattle.h3_command.proofs.Written.{nothing, writes_refused}
 
 -- an answer to what was read is written, and no read failed
-reading_written : (a : Answer) (bytes : List ℕ) (was_read : Type 0) (source : SourceUse) (ending : Result (Unit {0}) RunError) (out : SinkUse) → was_read → NoReadFails source → Writes a ending out
+reading_written : (a : Answer) (bytes : List ℕ) (was_read : Type 0) (source : SourceUse)
+    (ending : Result (Unit {0}) RunError) (out : SinkUse)
+    → was_read → NoReadFails source → Writes a ending out
     → WritesReading a bytes was_read source ending out
 unfolding Writes
 reading_written a bytes was_read source (Ok u) out all sound writes = (all, sound, writes)
@@ -52,22 +54,28 @@ reading_written a bytes was_read source (Err (Fault Write)) out all sound writes
 -- ---- a list
 
 -- a list whose cells are answered is read to its end
-read_whole : (a : Answer) (list : List ℕ) (cells : List Address) (input : SourceUse) (ending : Result (Unit {0}) RunError) (out : SinkUse) → listed_cells list ≡ Ok cells → Writes a ending out → IsReadToEnd input
+read_whole : (a : Answer) (list : List ℕ) (cells : List Address) (input : SourceUse)
+    (ending : Result (Unit {0}) RunError) (out : SinkUse)
+    → listed_cells list ≡ Ok cells → Writes a ending out → IsReadToEnd input
     → IsReadSoFar (listed_cells list) input ending
 unfolding Writes
 read_whole a list cells input (Ok u) out is writes whole = subst (λ l. IsReadSoFar l input (Ok u)) (sym is) whole
-read_whole a list cells input (Err (Error e)) out is writes whole = subst (λ l. IsReadSoFar l input (Err (Error e))) (sym is) whole
+read_whole a list cells input (Err (Error e)) out is writes whole =
+    subst (λ l. IsReadSoFar l input (Err (Error e))) (sym is) whole
 read_whole a list cells input (Err (Fault Memory)) out is never whole = absurd never
 read_whole a list cells input (Err (Fault Read)) out is never whole = absurd never
-read_whole a list cells input (Err (Fault Write)) out is writes whole = subst (λ l. IsReadSoFar l input (Err (Fault Write))) (sym is) whole
+read_whole a list cells input (Err (Fault Write)) out is writes whole =
+    subst (λ l. IsReadSoFar l input (Err (Fault Write))) (sym is) whole
 
 -- where there is no memory, a list may not be read to its end
-read_in_part : (cells : Result (List Address) H3Error) (input : SourceUse) → StopsWithin 65536 input → IsReadSoFar cells input (Err (Fault Memory))
+read_in_part : (cells : Result (List Address) H3Error) (input : SourceUse) → StopsWithin 65536 input
+    → IsReadSoFar cells input (Err (Fault Memory))
 read_in_part (Ok cells) input stops = inr stops
 read_in_part (Err e) input stops = stops
 
 -- the list is refused
-pub list_refused : (about : List Address → Answer) (input : SourceUse) (e : RunError) (out : SinkUse) → ListRefused RefusesByError (2 ^ 40) 65536 input e → IsLeft out → WritesOfList about input (Err e) out
+pub list_refused : (about : List Address → Answer) (input : SourceUse) (e : RunError) (out : SinkUse)
+    → ListRefused RefusesByError (2 ^ 40) 65536 input e → IsLeft out → WritesOfList about input (Err e) out
 list_refused about input (Error d) out told left =
     let (error, is, call) = told.refused in (
       told.list,
@@ -76,33 +84,44 @@ list_refused about input (Error d) out told left =
         told.within (λ never. cc never) (λ never. cc never),
         told.sound (λ never. cc never),
         subst (λ c. Writes (answer_or_error about (listed_cells told.list)) (Err (Error c)) out) (sym call)
-            (subst (λ cells. Writes (answer_or_error about cells) (Err (Error (Call error))) out) (sym is) (writes_refused error out left)),
+            (subst (λ cells. Writes (answer_or_error about cells) (Err (Error (Call error))) out) (sym is)
+            (writes_refused error out left)),
       ),
       subst (λ l. IsReadSoFar l input (Err (Error d))) (sym is) told.stops,
     )
-list_refused about input (Fault Memory) out told left = (told.list, told.held, (told.sound (λ never. cc never), left), read_in_part (listed_cells told.list) input told.stops)
+list_refused about input (Fault Memory) out told left = (
+  told.list,
+  told.held,
+  (told.sound (λ never. cc never), left),
+  read_in_part (listed_cells told.list) input told.stops,
+)
 list_refused about input (Fault Read) out told left = (told.list, told.held, (told.refused, left), told.faults refl)
 list_refused about input (Fault Write) out told left = absurd told.refused
 
 -- the list is read, and the answer about its cells is written
-pub list_written : (about : List Address → Answer) (cells : List Address) (input : SourceUse) (ending : Result (Unit {0}) RunError) (out : SinkUse) → ListRead (2 ^ 40) 65536 input cells → Writes (about cells) ending out
+pub list_written : (about : List Address → Answer) (cells : List Address) (input : SourceUse)
+    (ending : Result (Unit {0}) RunError) (out : SinkUse)
+    → ListRead (2 ^ 40) 65536 input cells → Writes (about cells) ending out
     → WritesOfList about input ending out
 list_written about cells input ending out told writes = (
   told.list,
   told.held,
-  reading_written _ told.list _ input ending out (inl told.within) told.sound (subst (λ read. Writes (answer_or_error about read) ending out) (sym told.is) writes),
+  reading_written _ told.list _ input ending out (inl told.within) told.sound
+      (subst (λ read. Writes (answer_or_error about read) ending out) (sym told.is) writes),
   read_whole _ told.list cells input ending out told.is writes told.whole,
 )
 
 -- ---- a list whose faulty line is reported with its number
 
 -- an error in place of an answer is written
-error_written : (e : AnswerError) (out : SinkUse) → IsLeft out → Writes (record { output = []; ending = Err e }) (Err (Error e)) out
+error_written : (e : AnswerError) (out : SinkUse) → IsLeft out
+    → Writes (record { output = []; ending = Err e }) (Err (Error e)) out
 unfolding Writes
 error_written e out left = (refl, (nothing _ _ left.0, left.1))
 
 -- the list is refused
-pub numbered_refused : (about : List Address → Answer) (input : SourceUse) (e : RunError) (out : SinkUse) → ListRefused RefusesByLine (2 ^ 40) 65536 input e → IsLeft out → WritesOfNumberedList about input (Err e) out
+pub numbered_refused : (about : List Address → Answer) (input : SourceUse) (e : RunError) (out : SinkUse)
+    → ListRefused RefusesByLine (2 ^ 40) 65536 input e → IsLeft out → WritesOfNumberedList about input (Err e) out
 numbered_refused about input (Error d) out told left =
     let (error, is, at) = told.refused in (
       told.list,
@@ -111,11 +130,18 @@ numbered_refused about input (Error d) out told left =
         told.within (λ never. cc never) (λ never. cc never),
         told.sound (λ never. cc never),
         subst (λ c. Writes (about_numbered_list None about told.list) (Err (Error c)) out) (sym at)
-            (subst (λ cells. Writes (answer_or_error_at (faulty_line told.list) about cells) (Err (Error (At (faulty_line told.list) error))) out) (sym is) (error_written (At (faulty_line told.list) error) out left)),
+            (subst (λ cells. Writes (answer_or_error_at (faulty_line told.list) about cells)
+            (Err (Error (At (faulty_line told.list) error))) out) (sym is) (error_written
+            (At (faulty_line told.list) error) out left)),
       ),
       subst (λ l. IsReadSoFar l input (Err (Error d))) (sym is) told.stops,
     )
-numbered_refused about input (Fault Memory) out told left = (told.list, told.held, (told.sound (λ never. cc never), left), read_in_part (listed_cells told.list) input told.stops)
+numbered_refused about input (Fault Memory) out told left = (
+  told.list,
+  told.held,
+  (told.sound (λ never. cc never), left),
+  read_in_part (listed_cells told.list) input told.stops,
+)
 numbered_refused about input (Fault Read) out told left = (told.list, told.held, (told.refused, left), told.faults refl)
 numbered_refused about input (Fault Write) out told left = absurd told.refused
 
@@ -130,62 +156,141 @@ unread list =
     record { before = []; last = []; split = refl; within = omega arith; good = record { ended = []; last = []; lines = refl; good = refl; short = omega arith } }
 
 -- there is no memory before any of the list is read
-numbered_unread : (about : List Address → Answer) (input : SourceUse) (out : SinkUse) → NoReadFails input → input.left_after ≡ input.left → IsLeft out → WritesOfNumberedList about input (Err (Fault Memory)) out
+numbered_unread : (about : List Address → Answer) (input : SourceUse) (out : SinkUse) → NoReadFails input
+    → input.left_after ≡ input.left → IsLeft out → WritesOfNumberedList about input (Err (Fault Memory)) out
 numbered_unread about input out sound alone left =
-    let (bytes, held) = some_left input.left in
-    (bytes, held, (sound, left), read_in_part (listed_cells bytes) input (λ list known. (list, alone ∙ known, unread list)))
+    let (bytes, held) = some_left input.left in (
+      bytes,
+      held,
+      (sound, left),
+      read_in_part (listed_cells bytes) input (λ list known. (list, alone ∙ known, unread list)),
+    )
 
 -- the list is read, and the answer about its cells is written
-pub numbered_written : (about : List Address → Answer) (cells : List Address) (input : SourceUse) (ending : Result (Unit {0}) RunError) (out : SinkUse) → ListRead (2 ^ 40) 65536 input cells → Writes (about cells) ending out
+pub numbered_written : (about : List Address → Answer) (cells : List Address) (input : SourceUse)
+    (ending : Result (Unit {0}) RunError) (out : SinkUse)
+    → ListRead (2 ^ 40) 65536 input cells → Writes (about cells) ending out
     → WritesOfNumberedList about input ending out
 numbered_written about cells input ending out told writes = (
   told.list,
   told.held,
-  reading_written _ told.list _ input ending out (inl told.within) told.sound (subst (λ read. Writes (answer_or_error_at (faulty_line told.list) about read) ending out) (sym told.is) writes),
+  reading_written _ told.list _ input ending out (inl told.within) told.sound
+      (subst (λ read. Writes (answer_or_error_at (faulty_line told.list) about read) ending out) (sym told.is) writes),
   read_whole _ told.list cells input ending out told.is writes told.whole,
 )
 
 -- there is no memory before any of the rows is read
-rows_unread : (form : Form) (input : SourceUse) → NoReadFails input → input.left_after ≡ input.left → RefusesRows form input.left input.left_after input.had_failed input.has_failed (Fault Memory)
+rows_unread : (form : Form) (input : SourceUse) → NoReadFails input → input.left_after ≡ input.left
+    → RefusesRows form input.left input.left_after input.had_failed input.has_failed (Fault Memory)
 rows_unread form input sound alone =
     let (bytes, held) = some_left input.left in
-    let told = subst (λ after. Consumes input.left after []) (sym alone) (Consumes-nil input.left) in
-    (sound, record { part = []; last = []; rest = bytes; held = held; consumed = told; short = omega arith; within = omega arith; ended = []; unended = ([], false); rows = refl; begun = omega arith; cells = []; good = refl })
+    let told = subst (λ after. Consumes input.left after []) (sym alone) (Consumes-nil input.left) in (
+      sound,
+      record {
+        part = [];
+        last = [];
+        rest = bytes;
+        held = held;
+        consumed = told;
+        short = omega arith;
+        within = omega arith;
+        ended = [];
+        unended = ([], false);
+        rows = refl;
+        begun = omega arith;
+        cells = [];
+        good = refl;
+      },
+    )
 
 -- there is no memory before any of a list is read, bare or of rows
-pub list_unread : (form : Option Form) (about : List Address → Answer) (input : SourceUse) (out : SinkUse) → NoReadFails input → input.left_after ≡ input.left → IsLeft out → EndsNumberedList form about input (Err (Fault Memory)) out
+pub list_unread : (form : Option Form) (about : List Address → Answer) (input : SourceUse) (out : SinkUse)
+    → NoReadFails input → input.left_after ≡ input.left → IsLeft out
+    → EndsNumberedList form about input (Err (Fault Memory)) out
 list_unread None about input out sound alone left = numbered_unread about input out sound alone left
 list_unread (Some form) about input out sound alone left = inr (rows_unread form input sound alone, left)
+
+-- there is no memory before any of the rows is read of which a second field is read too
+pub entries_unread : (table : NamedTable) (about : List Entry → Answer) (input : SourceUse) (out : SinkUse)
+    → NoReadFails input → input.left_after ≡ input.left → IsLeft out
+    → EndsEntries table about input (Err (Fault Memory)) out
+entries_unread table about input out sound alone left =
+    let (bytes, held) = some_left input.left in
+    let told = subst (λ after. Consumes input.left after []) (sym alone) (Consumes-nil input.left) in
+    inr (
+      (
+        sound,
+        record {
+          part = [];
+          last = [];
+          rest = bytes;
+          held = held;
+          consumed = told;
+          short = omega arith;
+          within = omega arith;
+          ended = [];
+          unended = ([], false);
+          rows = refl;
+          begun = omega arith;
+          entries = [];
+          good = refl;
+        },
+      ),
+      left,
+    )
 
 -- ---- a table
 
 -- there is an error in place of the value, and the table is not read
-pub value_refused : {A : Type 0} (about : A → Links → Answer) (value : Result A H3Error) (e : H3Error) (input table : SourceUse) (out : SinkUse) → Err e ≡ value → IsLeft out
+pub value_refused : {A : Type 0} (about : A → Links → Answer) (value : Result A H3Error) (e : H3Error)
+    (input table : SourceUse) (out : SinkUse)
+    → Err e ≡ value → IsLeft out
     → Ends (with_table about value) input table (Err (Error (Call e))) out
 value_refused about value e input table out is left =
     subst (λ c. Ends (with_table about c) input table (Err (Error (Call e))) out) is (writes_refused e out left)
 
 -- an error of the table stands in place of an answer
-table_error : (a : Answer) (first : Option TableError) (e : TableError) (file : List ℕ) (table : SourceUse) (out : SinkUse) → first ≡ Some e → (was_read : Type 0) → ((e ≡ in_table.Read → ⊥) → (e ≡ in_table.Memory → ⊥) → was_read)
-    → ((e ≡ in_table.Read → ⊥) → NoReadFails table) → IsLeft out → (e ≡ in_table.Read → ⊥) → (e ≡ in_table.Memory → ⊥) → WritesReading (unless_faulty first a) file was_read table (Err (Error (Table e))) out
+table_error : (a : Answer) (first : Option TableError) (e : TableError) (file : List ℕ) (table : SourceUse)
+    (out : SinkUse)
+    → first ≡ Some e → (was_read : Type 0) → ((e ≡ in_table.Read → ⊥) → (e ≡ in_table.Memory → ⊥) → was_read)
+    → ((e ≡ in_table.Read → ⊥) → NoReadFails table) → IsLeft out → (e ≡ in_table.Read → ⊥) → (e ≡ in_table.Memory → ⊥)
+    → WritesReading (unless_faulty first a) file was_read table (Err (Error (Table e))) out
 unfolding Writes
-table_error a first e file table out is was_read all sound left other memory =
-    (all other memory, sound other, subst (λ f. Writes (unless_faulty f a) (Err (Error (Table e))) out) (sym is) (refl, (nothing _ _ left.0, left.1)))
+table_error a first e file table out is was_read all sound left other memory = (
+  all other memory,
+  sound other,
+  subst (λ f. Writes (unless_faulty f a) (Err (Error (Table e))) out) (sym is) (
+    refl,
+    (nothing _ _ left.0, left.1),
+  ),
+)
 
-table_refuses : (a : Answer) (first : Option TableError) (e : TableError) (file : List ℕ) (table : SourceUse) (out : SinkUse) → RefusesTable (ReadFails table file) first e → (was_read : Type 0)
-    → ((e ≡ in_table.Read → ⊥) → (e ≡ in_table.Memory → ⊥) → was_read) → ((e ≡ in_table.Read → ⊥) → NoReadFails table) → IsLeft out → WritesReading (unless_faulty first a) file was_read table (Err (table_refusal e)) out
+table_refuses : (a : Answer) (first : Option TableError) (e : TableError) (file : List ℕ) (table : SourceUse)
+    (out : SinkUse)
+    → RefusesTable (ReadFails table file) first e → (was_read : Type 0)
+    → ((e ≡ in_table.Read → ⊥) → (e ≡ in_table.Memory → ⊥) → was_read) → ((e ≡ in_table.Read → ⊥) → NoReadFails table)
+    → IsLeft out → WritesReading (unless_faulty first a) file was_read table (Err (table_refusal e)) out
 table_refuses a first in_table.Read file table out fails was_read all sound left = (fails, left)
 table_refuses a first in_table.Memory file table out any was_read all sound left = (sound (λ never. cc never), left)
-table_refuses a first (in_table.Form row) file table out is was_read all sound left = table_error a first _ file table out is was_read all sound left (λ never. cc never) (λ never. cc never)
-table_refuses a first (in_table.Range row) file table out is was_read all sound left = table_error a first _ file table out is was_read all sound left (λ never. cc never) (λ never. cc never)
-table_refuses a first (in_table.Repeated row) file table out is was_read all sound left = table_error a first _ file table out is was_read all sound left (λ never. cc never) (λ never. cc never)
-table_refuses a first in_table.Missing file table out is was_read all sound left = table_error a first _ file table out is was_read all sound left (λ never. cc never) (λ never. cc never)
-table_refuses a first (in_table.Neighbours b) file table out is was_read all sound left = table_error a first _ file table out is was_read all sound left (λ never. cc never) (λ never. cc never)
-table_refuses a first (in_table.Reversal b d) file table out is was_read all sound left = table_error a first _ file table out is was_read all sound left (λ never. cc never) (λ never. cc never)
-table_refuses a first (in_table.Corner b d) file table out is was_read all sound left = table_error a first _ file table out is was_read all sound left (λ never. cc never) (λ never. cc never)
+table_refuses a first (in_table.Form row) file table out is was_read all sound left =
+    table_error a first _ file table out is was_read all sound left (λ never. cc never) (λ never. cc never)
+table_refuses a first (in_table.Range row) file table out is was_read all sound left =
+    table_error a first _ file table out is was_read all sound left (λ never. cc never) (λ never. cc never)
+table_refuses a first (in_table.Repeated row) file table out is was_read all sound left =
+    table_error a first _ file table out is was_read all sound left (λ never. cc never) (λ never. cc never)
+table_refuses a first in_table.Missing file table out is was_read all sound left =
+    table_error a first _ file table out is was_read all sound left (λ never. cc never) (λ never. cc never)
+table_refuses a first (in_table.Neighbours b) file table out is was_read all sound left =
+    table_error a first _ file table out is was_read all sound left (λ never. cc never) (λ never. cc never)
+table_refuses a first (in_table.Reversal b d) file table out is was_read all sound left =
+    table_error a first _ file table out is was_read all sound left (λ never. cc never) (λ never. cc never)
+table_refuses a first (in_table.Corner b d) file table out is was_read all sound left =
+    table_error a first _ file table out is was_read all sound left (λ never. cc never) (λ never. cc never)
 
 -- a table that is refused for what is in it was read to its end
-table_read : (e : TableError) (table : SourceUse) → ((e ≡ in_table.Read → ⊥) → (e ≡ in_table.Memory → ⊥) → IsReadToEnd table) → IsReadWhole table (Err (table_refusal e))
+table_read : (e : TableError) (table : SourceUse)
+    → ((e ≡ in_table.Read → ⊥) → (e ≡ in_table.Memory → ⊥) → IsReadToEnd table)
+    → IsReadWhole table (Err (table_refusal e))
 table_read in_table.Read table whole = tt
 table_read in_table.Memory table whole = tt
 table_read (in_table.Form row) table whole = whole (λ never. cc never) (λ never. cc never)
@@ -205,146 +310,349 @@ whole_anyway table (Err (Fault Memory)) whole = tt
 whole_anyway table (Err (Fault Read)) whole = tt
 
 -- the table is refused
-pub table_refused_so : {A : Type 0} (about : A → Links → Answer) (read : Result A H3Error) (value : A) (e : TableError) (input table : SourceUse) (out : SinkUse) → Ok value ≡ read
-    → (file : List ℕ) × HasLeft table.left file × RefusesTable (ReadFails table file) (table_fault (records_of file)) e × ((e ≡ in_table.Read → ⊥) → (e ≡ in_table.Memory → ⊥) → IsWithinReads (2 ^ 40) 4096 file)
-    → ((e ≡ in_table.Read → ⊥) → NoReadFails table) → ((e ≡ in_table.Read → ⊥) → (e ≡ in_table.Memory → ⊥) → IsReadToEnd table) → IsLeft out
+pub table_refused_so : {A : Type 0} (about : A → Links → Answer) (read : Result A H3Error) (value : A) (e : TableError)
+    (input table : SourceUse) (out : SinkUse)
+    → Ok value ≡ read
+    → (file : List ℕ) × HasLeft table.left file × RefusesTable (ReadFails table file) (table_fault (records_of file)) e
+    × ((e ≡ in_table.Read → ⊥) → (e ≡ in_table.Memory → ⊥) → IsWithinReads (2 ^ 40) 4096 file)
+    → ((e ≡ in_table.Read → ⊥) → NoReadFails table)
+    → ((e ≡ in_table.Read → ⊥) → (e ≡ in_table.Memory → ⊥) → IsReadToEnd table) → IsLeft out
     → Ends (with_table about read) input table (Err (table_refusal e)) out
 table_refused_so about read value e input table out is (file, held, refuses, all) sound whole left =
-    subst (λ c. Ends (with_table about c) input table (Err (table_refusal e)) out) is (file, held, table_refuses _ _ e file table out refuses _ all sound left, table_read e table whole)
+    subst (λ c. Ends (with_table about c) input table (Err (table_refusal e)) out) is (
+      file,
+      held,
+      table_refuses _ _ e file table out refuses _ all sound left,
+      table_read e table whole,
+    )
 
 -- the table is read, and the answer about its links is written
-pub table_answered : {A : Type 0} (about : A → Links → Answer) (read : Result A H3Error) (value : A) (links : Links) (ending : Result (Unit {0}) RunError) (input table : SourceUse) (out : SinkUse) → Ok value ≡ read
-    → (file : List ℕ) → HasLeft table.left file → IsWithinReads (2 ^ 40) 4096 file → table_fault (records_of file) ≡ None → links ≡ links_of (records_of file) → NoReadFails table → IsReadToEnd table → Writes (about value links) ending out
+pub table_answered : {A : Type 0} (about : A → Links → Answer) (read : Result A H3Error) (value : A) (links : Links)
+    (ending : Result (Unit {0}) RunError) (input table : SourceUse) (out : SinkUse)
+    → Ok value ≡ read
+    → (file : List ℕ) → HasLeft table.left file → IsWithinReads (2 ^ 40) 4096 file
+    → table_fault (records_of file) ≡ None → links ≡ links_of (records_of file) → NoReadFails table → IsReadToEnd table
+    → Writes (about value links) ending out
     → Ends (with_table about read) input table ending out
 table_answered about read value links ending input table out is file held short none same sound whole writes =
     let about_file : Writes (about_table (about value) file) ending out =
     subst (λ f. Writes (unless_faulty f (about value (links_of (records_of file)))) ending out) (sym none) (subst (λ l. Writes (about value l) ending out) same writes) in
-    subst (λ c. Ends (with_table about c) input table ending out) is (file, held, reading_written _ file _ table ending out short sound about_file, whole_anyway table ending whole)
+    subst (λ c. Ends (with_table about c) input table ending out) is (
+      file,
+      held,
+      reading_written _ file _ table ending out short sound about_file,
+      whole_anyway table ending whole,
+    )
 
 -- a table before a list is refused
-pub table_file_refused : (e : TableError) (bytes : List ℕ) (table : SourceUse) → RefusesTable (ReadFails table bytes) (table_fault (records_of bytes)) e → ((e ≡ in_table.Read → ⊥) → (e ≡ in_table.Memory → ⊥) → IsWithinReads (2 ^ 40) 4096 bytes)
-    → ((e ≡ in_table.Read → ⊥) → NoReadFails table) → ((e ≡ in_table.Read → ⊥) → (e ≡ in_table.Memory → ⊥) → IsReadToEnd table) → RefusesTableFile bytes table (Err (table_refusal e))
+pub table_file_refused : (e : TableError) (bytes : List ℕ) (table : SourceUse)
+    → RefusesTable (ReadFails table bytes) (table_fault (records_of bytes)) e
+    → ((e ≡ in_table.Read → ⊥) → (e ≡ in_table.Memory → ⊥) → IsWithinReads (2 ^ 40) 4096 bytes)
+    → ((e ≡ in_table.Read → ⊥) → NoReadFails table)
+    → ((e ≡ in_table.Read → ⊥) → (e ≡ in_table.Memory → ⊥) → IsReadToEnd table)
+    → RefusesTableFile bytes table (Err (table_refusal e))
 table_file_refused in_table.Read bytes table fails all sound whole = fails
 table_file_refused in_table.Memory bytes table any all sound whole = sound (λ never. cc never)
-table_file_refused (in_table.Form row) bytes table is all sound whole = (in_table.Form row, is, refl, all (λ never. cc never) (λ never. cc never), sound (λ never. cc never), whole (λ never. cc never) (λ never. cc never))
-table_file_refused (in_table.Range row) bytes table is all sound whole = (in_table.Range row, is, refl, all (λ never. cc never) (λ never. cc never), sound (λ never. cc never), whole (λ never. cc never) (λ never. cc never))
-table_file_refused (in_table.Repeated row) bytes table is all sound whole = (in_table.Repeated row, is, refl, all (λ never. cc never) (λ never. cc never), sound (λ never. cc never), whole (λ never. cc never) (λ never. cc never))
-table_file_refused in_table.Missing bytes table is all sound whole = (in_table.Missing, is, refl, all (λ never. cc never) (λ never. cc never), sound (λ never. cc never), whole (λ never. cc never) (λ never. cc never))
-table_file_refused (in_table.Neighbours b) bytes table is all sound whole = (in_table.Neighbours b, is, refl, all (λ never. cc never) (λ never. cc never), sound (λ never. cc never), whole (λ never. cc never) (λ never. cc never))
-table_file_refused (in_table.Reversal b d) bytes table is all sound whole = (in_table.Reversal b d, is, refl, all (λ never. cc never) (λ never. cc never), sound (λ never. cc never), whole (λ never. cc never) (λ never. cc never))
-table_file_refused (in_table.Corner b d) bytes table is all sound whole = (in_table.Corner b d, is, refl, all (λ never. cc never) (λ never. cc never), sound (λ never. cc never), whole (λ never. cc never) (λ never. cc never))
+table_file_refused (in_table.Form row) bytes table is all sound whole = (
+  in_table.Form row,
+  is,
+  refl,
+  all (λ never. cc never) (λ never. cc never),
+  sound (λ never. cc never),
+  whole (λ never. cc never) (λ never. cc never),
+)
+table_file_refused (in_table.Range row) bytes table is all sound whole = (
+  in_table.Range row,
+  is,
+  refl,
+  all (λ never. cc never) (λ never. cc never),
+  sound (λ never. cc never),
+  whole (λ never. cc never) (λ never. cc never),
+)
+table_file_refused (in_table.Repeated row) bytes table is all sound whole = (
+  in_table.Repeated row,
+  is,
+  refl,
+  all (λ never. cc never) (λ never. cc never),
+  sound (λ never. cc never),
+  whole (λ never. cc never) (λ never. cc never),
+)
+table_file_refused in_table.Missing bytes table is all sound whole = (
+  in_table.Missing,
+  is,
+  refl,
+  all (λ never. cc never) (λ never. cc never),
+  sound (λ never. cc never),
+  whole (λ never. cc never) (λ never. cc never),
+)
+table_file_refused (in_table.Neighbours b) bytes table is all sound whole = (
+  in_table.Neighbours b,
+  is,
+  refl,
+  all (λ never. cc never) (λ never. cc never),
+  sound (λ never. cc never),
+  whole (λ never. cc never) (λ never. cc never),
+)
+table_file_refused (in_table.Reversal b d) bytes table is all sound whole = (
+  in_table.Reversal b d,
+  is,
+  refl,
+  all (λ never. cc never) (λ never. cc never),
+  sound (λ never. cc never),
+  whole (λ never. cc never) (λ never. cc never),
+)
+table_file_refused (in_table.Corner b d) bytes table is all sound whole = (
+  in_table.Corner b d,
+  is,
+  refl,
+  all (λ never. cc never) (λ never. cc never),
+  sound (λ never. cc never),
+  whole (λ never. cc never) (λ never. cc never),
+)
 
 -- ---- a run
 
 -- an answer that was written, where no write failed, is given
-gives_written : (a : Answer) (ending : Result (Unit {0}) RunError) (status : ℕ) (s : Streams) → Writes a ending s.out → s.out.has_failed ≡ false → Reports ending status s.err → Gives a status s
+gives_written : (a : Answer) (ending : Result (Unit {0}) RunError) (status : ℕ) (s : Streams) → Writes a ending s.out
+    → s.out.has_failed ≡ false → Reports ending status s.err → Gives a status s
 unfolding Writes
-gives_written a (Ok u) status s writes w reports = record { output = writes.1; report = subst (λ e. Reports (ending_of e) status s.err) (sym writes.0) reports }
-gives_written a (Err (Error e)) status s writes w reports = record { output = writes.1; report = subst (λ e. Reports (ending_of e) status s.err) (sym writes.0) reports }
+gives_written a (Ok u) status s writes w reports =
+    record { output = writes.1; report = subst (λ e. Reports (ending_of e) status s.err) (sym writes.0) reports }
+gives_written a (Err (Error e)) status s writes w reports =
+    record { output = writes.1; report = subst (λ e. Reports (ending_of e) status s.err) (sym writes.0) reports }
 gives_written a (Err (Fault Memory)) status s never w reports = absurd never
 gives_written a (Err (Fault Read)) status s never w reports = absurd never
 gives_written a (Err (Fault Write)) status s writes w reports = let failed : s.out.has_failed ≡ true = writes.1.1 in cc
 
 -- the same of an answer to what was read
-gives_reading : (a : Answer) (bytes : List ℕ) (was_read : Type 0) (source : SourceUse) (ending : Result (Unit {0}) RunError) (status : ℕ) (s : Streams) → WritesReading a bytes was_read source ending s.out
-    → (ReadFails source bytes → ⊥) → s.out.has_failed ≡ false → Reports ending status s.err → Gives a status s ⊎ RunsOutOfMemory status s
-gives_reading a bytes was_read source (Ok u) status s writes r w reports = inl (gives_written a (Ok u) status s writes.2 w reports)
-gives_reading a bytes was_read source (Err (Error e)) status s writes r w reports = inl (gives_written a (Err (Error e)) status s writes.2 w reports)
-gives_reading a bytes was_read source (Err (Fault Memory)) status s writes r w reports = inr (record { output = writes.1; report = reports })
+gives_reading : (a : Answer) (bytes : List ℕ) (was_read : Type 0) (source : SourceUse)
+    (ending : Result (Unit {0}) RunError) (status : ℕ) (s : Streams)
+    → WritesReading a bytes was_read source ending s.out
+    → (ReadFails source bytes → ⊥) → s.out.has_failed ≡ false → Reports ending status s.err
+    → Gives a status s ⊎ RunsOutOfMemory status s
+gives_reading a bytes was_read source (Ok u) status s writes r w reports =
+    inl (gives_written a (Ok u) status s writes.2 w reports)
+gives_reading a bytes was_read source (Err (Error e)) status s writes r w reports =
+    inl (gives_written a (Err (Error e)) status s writes.2 w reports)
+gives_reading a bytes was_read source (Err (Fault Memory)) status s writes r w reports =
+    inr (record { output = writes.1; report = reports })
 gives_reading a bytes was_read source (Err (Fault Read)) status s writes r w reports = absurd (r writes.0)
-gives_reading a bytes was_read source (Err (Fault Write)) status s writes r w reports = inl (gives_written a (Err (Fault Write)) status s writes.2 w reports)
+gives_reading a bytes was_read source (Err (Fault Write)) status s writes r w reports =
+    inl (gives_written a (Err (Fault Write)) status s writes.2 w reports)
 
 -- the same of a list whose lines are answered
-gives_each : (about : Option ℕ → Answer) (ending : Result (Unit {0}) RunError) (status : ℕ) (s : Streams) → EndsEach about s.input.left s.input.left_after s.input.had_failed s.input.has_failed ending s.out → Reports ending status s.err
-    → (list : List ℕ) × HasLeft s.input.left list × ((ReadFails s.input list → ⊥) → s.out.has_failed ≡ false → Gives (list_answer about list) status s ⊎ RunsOutOfMemory status s)
-gives_each about (Ok u) status s (sound, all) reports = (all.list, all.held, λ r w. inl (gives_written (list_answer about all.list) (Ok u) status s all.writes w reports))
-gives_each about (Err (Error e)) status s (sound, at, (stop, writes)) reports =
-    (stop.part ++ stop.last ++ stop.rest, stop.held, λ r w. inl (gives_written (list_answer about (stop.part ++ stop.last ++ stop.rest)) (Err (Error e)) status s writes w reports))
-gives_each about (Err (Fault Write)) status s (sound, (stop, takes)) reports = (stop.part ++ stop.last ++ stop.rest, stop.held, λ r w. absurd (cc (takes.failed, w)))
-gives_each about (Err (Fault Read)) status s stops reports = (stops.part ++ stops.rest, stops.held, λ r w. absurd (r stops.fails))
+gives_each : (about : Option ℕ → Answer) (ending : Result (Unit {0}) RunError) (status : ℕ) (s : Streams)
+    → EndsEach about s.input.left s.input.left_after s.input.had_failed s.input.has_failed ending s.out
+    → Reports ending status s.err
+    → (list : List ℕ) × HasLeft s.input.left list
+    × ((ReadFails s.input list → ⊥) → s.out.has_failed ≡ false
+    → Gives (list_answer about list) status s ⊎ RunsOutOfMemory status s)
+gives_each about (Ok u) status s (sound, all) reports =
+    (all.list, all.held, λ r w. inl (gives_written (list_answer about all.list) (Ok u) status s all.writes w reports))
+gives_each about (Err (Error e)) status s (sound, at, (stop, writes)) reports = (
+  stop.part ++ stop.last ++ stop.rest,
+  stop.held,
+  λ r w. inl (gives_written
+      (list_answer about (stop.part ++ stop.last ++ stop.rest)) (Err (Error e)) status s writes w reports),
+)
+gives_each about (Err (Fault Write)) status s (sound, (stop, takes)) reports =
+    (stop.part ++ stop.last ++ stop.rest, stop.held, λ r w. absurd (cc (takes.failed, w)))
+gives_each about (Err (Fault Read)) status s stops reports =
+    (stops.part ++ stops.rest, stops.held, λ r w. absurd (r stops.fails))
 gives_each about (Err (Fault Memory)) status s (sound, kept, left) reports =
     let (list, held) = some_left s.input.left in
     (list, held, λ r w. inr (record { output = left; report = reports }))
 
 -- the same of a list whose rows are answered
 gives_rows : (form : Form) (about : Option ℕ → Answer) (ending : Result (Unit {0}) RunError) (status : ℕ) (s : Streams)
-    → EndsRows form.quotes (rows_answer form about) (begun_answer form about) s.input.left s.input.left_after s.input.had_failed s.input.has_failed ending s.out → Reports ending status s.err
-    → (list : List ℕ) × HasLeft s.input.left list × ((ReadFails s.input list → ⊥) → s.out.has_failed ≡ false → Gives (row_answers form about list) status s ⊎ RunsOutOfMemory status s)
-gives_rows form about (Ok u) status s (sound, all) reports = (all.list, all.held, λ r w. inl (gives_written (row_answers form about all.list) (Ok u) status s all.writes w reports))
-gives_rows form about (Err (Error e)) status s (sound, inl (all, good)) reports = (all.list, all.held, λ r w. inl (gives_written (row_answers form about all.list) (Err (Error e)) status s all.writes w reports))
-gives_rows form about (Err (Error e)) status s (sound, inr ((stop, writes), of_row)) reports =
-    (stop.part ++ stop.last ++ stop.rest, stop.held, λ r w. inl (gives_written (row_answers form about (stop.part ++ stop.last ++ stop.rest)) (Err (Error e)) status s writes w reports))
-gives_rows form about (Err (Fault Write)) status s (sound, inl (all, good)) reports = (all.list, all.held, λ r w. inl (gives_written (row_answers form about all.list) (Err (Fault Write)) status s all.writes w reports))
-gives_rows form about (Err (Fault Write)) status s (sound, inr (stop, takes)) reports = (stop.part ++ stop.last ++ stop.rest, stop.held, λ r w. absurd (cc (takes.failed, w)))
-gives_rows form about (Err (Fault Read)) status s stops reports = (stops.part ++ stops.rest, stops.held, λ r w. absurd (r stops.fails))
+    → EndsRows form.quotes (rows_answer form about)
+    (begun_answer form about) s.input.left s.input.left_after s.input.had_failed s.input.has_failed ending s.out
+    → Reports ending status s.err
+    → (list : List ℕ) × HasLeft s.input.left list
+    × ((ReadFails s.input list → ⊥) → s.out.has_failed ≡ false
+    → Gives (row_answers form about list) status s ⊎ RunsOutOfMemory status s)
+gives_rows form about (Ok u) status s (sound, all) reports = (
+  all.list,
+  all.held,
+  λ r w. inl (gives_written (row_answers form about all.list) (Ok u) status s all.writes w reports),
+)
+gives_rows form about (Err (Error e)) status s (sound, inl (all, good)) reports = (
+  all.list,
+  all.held,
+  λ r w. inl (gives_written (row_answers form about all.list) (Err (Error e)) status s all.writes w reports),
+)
+gives_rows form about (Err (Error e)) status s (sound, inr ((stop, writes), of_row)) reports = (
+  stop.part ++ stop.last ++ stop.rest,
+  stop.held,
+  λ r w. inl (gives_written
+      (row_answers form about (stop.part ++ stop.last ++ stop.rest)) (Err (Error e)) status s writes w reports),
+)
+gives_rows form about (Err (Fault Write)) status s (sound, inl (all, good)) reports = (
+  all.list,
+  all.held,
+  λ r w. inl (gives_written (row_answers form about all.list) (Err (Fault Write)) status s all.writes w reports),
+)
+gives_rows form about (Err (Fault Write)) status s (sound, inr (stop, takes)) reports =
+    (stop.part ++ stop.last ++ stop.rest, stop.held, λ r w. absurd (cc (takes.failed, w)))
+gives_rows form about (Err (Fault Read)) status s stops reports =
+    (stops.part ++ stops.rest, stops.held, λ r w. absurd (r stops.fails))
 gives_rows form about (Err (Fault Memory)) status s (sound, kept, left) reports =
     let (list, held) = some_left s.input.left in
     (list, held, λ r w. inr (record { output = left; report = reports }))
 
 -- the same of either
-gives_lines : (form : Option Form) (about : Option ℕ → Answer) (ending : Result (Unit {0}) RunError) (status : ℕ) (s : Streams) → EndsLines form about s.input ending s.out → Reports ending status s.err
-    → (list : List ℕ) × HasLeft s.input.left list × ((ReadFails s.input list → ⊥) → s.out.has_failed ≡ false → Gives (listed_answer form about list) status s ⊎ RunsOutOfMemory status s)
+gives_lines : (form : Option Form) (about : Option ℕ → Answer) (ending : Result (Unit {0}) RunError) (status : ℕ)
+    (s : Streams)
+    → EndsLines form about s.input ending s.out → Reports ending status s.err
+    → (list : List ℕ) × HasLeft s.input.left list
+    × ((ReadFails s.input list → ⊥) → s.out.has_failed ≡ false
+    → Gives (listed_answer form about list) status s ⊎ RunsOutOfMemory status s)
 gives_lines None about ending status s ends reports = gives_each about ending status s ends reports
 gives_lines (Some form) about ending status s ends reports = gives_rows form about ending status s ends reports
 
 -- the cells of rows are refused, or not read to their end
-gives_refused_rows : (form : Form) (about : List Address → Answer) (ending : Result (Unit {0}) RunError) (status : ℕ) (s : Streams) → RefusesInput form s.input ending → IsLeft s.out → Reports ending status s.err
-    → (list : List ℕ) × HasLeft s.input.left list × ((ReadFails s.input list → ⊥) → Gives (about_rows form about list) status s ⊎ RunsOutOfMemory status s)
+gives_refused_rows : (form : Form) (about : List Address → Answer) (ending : Result (Unit {0}) RunError) (status : ℕ)
+    (s : Streams)
+    → RefusesInput form s.input ending → IsLeft s.out → Reports ending status s.err
+    → (list : List ℕ) × HasLeft s.input.left list
+    × ((ReadFails s.input list → ⊥) → Gives (about_rows form about list) status s ⊎ RunsOutOfMemory status s)
 gives_refused_rows form about (Ok u) status s never left reports = absurd never
 gives_refused_rows form about (Err (Error e)) status s (sound, inl late) left reports =
-    let all = late.read in
-    (all.list, all.held, λ r. inl (subst (λ c. Gives (unless_refused about c) status s) (sym all.is) (record { output = (nothing _ _ left.0, left.1); report = reports })))
+    let all = late.read in (
+      all.list,
+      all.held,
+      λ r. inl (subst (λ c. Gives (unless_refused about c) status s) (sym all.is)
+          (record { output = (nothing _ _ left.0, left.1); report = reports })),
+    )
 gives_refused_rows form about (Err (Error e)) status s (sound, inr page) left reports =
-    let stop = page.stop in
-    (stop.part ++ stop.last ++ stop.rest, stop.held, λ r. inl (subst (λ c. Gives (unless_refused about c) status s) (sym page.is) (record { output = (nothing _ _ left.0, left.1); report = reports })))
-gives_refused_rows form about (Err (Fault Memory)) status s (sound, stop) left reports = (stop.part ++ stop.last ++ stop.rest, stop.held, λ r. inr (record { output = left; report = reports }))
-gives_refused_rows form about (Err (Fault Read)) status s (stop, fails) left reports = (stop.part ++ stop.last ++ stop.rest, stop.held, λ r. absurd (r fails))
+    let stop = page.stop in (
+      stop.part ++ stop.last ++ stop.rest,
+      stop.held,
+      λ r. inl (subst (λ c. Gives (unless_refused about c) status s)
+          (sym page.is) (record { output = (nothing _ _ left.0, left.1); report = reports })),
+    )
+gives_refused_rows form about (Err (Fault Memory)) status s (sound, stop) left reports =
+    (stop.part ++ stop.last ++ stop.rest, stop.held, λ r. inr (record { output = left; report = reports }))
+gives_refused_rows form about (Err (Fault Read)) status s (stop, fails) left reports =
+    (stop.part ++ stop.last ++ stop.rest, stop.held, λ r. absurd (r fails))
 gives_refused_rows form about (Err (Fault Write)) status s never left reports = absurd never
 
 -- the same of rows about whose cells is answered
-gives_cells : (form : Form) (about : List Address → Answer) (ending : Result (Unit {0}) RunError) (status : ℕ) (s : Streams) → WritesOfRows form about s.input ending s.out → Reports ending status s.err
-    → (list : List ℕ) × HasLeft s.input.left list × ((ReadFails s.input list → ⊥) → s.out.has_failed ≡ false → Gives (about_rows form about list) status s ⊎ RunsOutOfMemory status s)
+gives_cells : (form : Form) (about : List Address → Answer) (ending : Result (Unit {0}) RunError) (status : ℕ)
+    (s : Streams)
+    → WritesOfRows form about s.input ending s.out → Reports ending status s.err
+    → (list : List ℕ) × HasLeft s.input.left list
+    × ((ReadFails s.input list → ⊥) → s.out.has_failed ≡ false
+    → Gives (about_rows form about list) status s ⊎ RunsOutOfMemory status s)
 gives_cells form about ending status s (inl (cells, (sound, all), inr (is, left))) reports =
     (all.list, all.held, λ r w. inr (record { output = left; report = subst (λ e. Reports e status s.err) is reports }))
-gives_cells form about ending status s (inl (cells, (sound, all), inl writes)) reports =
-    (all.list, all.held, λ r w. inl (subst (λ c. Gives (unless_refused about c) status s) (sym all.is) (gives_written (about cells) ending status s writes w reports)))
+gives_cells form about ending status s (inl (cells, (sound, all), inl writes)) reports = (
+  all.list,
+  all.held,
+  λ r w. inl (subst (λ c. Gives (unless_refused about c) status s) (sym all.is)
+      (gives_written (about cells) ending status s writes w reports)),
+)
 gives_cells form about ending status s (inr (refuses, left)) reports =
     let (list, held, given) = gives_refused_rows form about ending status s refuses left reports in
     (list, held, λ r w. given r)
 
 -- the same of a list about whose cells is answered, bare or of rows
-gives_list : (form : Option Form) (about : List Address → Answer) (ending : Result (Unit {0}) RunError) (status : ℕ) (s : Streams) → EndsList form about s.input ending s.out → Reports ending status s.err
-    → (list : List ℕ) × HasLeft s.input.left list × ((ReadFails s.input list → ⊥) → s.out.has_failed ≡ false → Gives (about_list form about list) status s ⊎ RunsOutOfMemory status s)
-gives_list None about ending status s (list, held, writes, so_far) reports = (list, held, λ r w. gives_reading _ list _ s.input ending status s writes r w reports)
+gives_list : (form : Option Form) (about : List Address → Answer) (ending : Result (Unit {0}) RunError) (status : ℕ)
+    (s : Streams)
+    → EndsList form about s.input ending s.out → Reports ending status s.err
+    → (list : List ℕ) × HasLeft s.input.left list
+    × ((ReadFails s.input list → ⊥) → s.out.has_failed ≡ false
+    → Gives (about_list form about list) status s ⊎ RunsOutOfMemory status s)
+gives_list None about ending status s (list, held, writes, so_far) reports =
+    (list, held, λ r w. gives_reading _ list _ s.input ending status s writes r w reports)
 gives_list (Some form) about ending status s ends reports = gives_cells form about ending status s ends reports
 
 -- the same, where the error of a faulty line is reported with its number
-gives_numbered_list : (form : Option Form) (about : List Address → Answer) (ending : Result (Unit {0}) RunError) (status : ℕ) (s : Streams) → EndsNumberedList form about s.input ending s.out → Reports ending status s.err
-    → (list : List ℕ) × HasLeft s.input.left list × ((ReadFails s.input list → ⊥) → s.out.has_failed ≡ false → Gives (about_numbered_list form about list) status s ⊎ RunsOutOfMemory status s)
-gives_numbered_list None about ending status s (list, held, writes, so_far) reports = (list, held, λ r w. gives_reading _ list _ s.input ending status s writes r w reports)
+gives_numbered_list : (form : Option Form) (about : List Address → Answer) (ending : Result (Unit {0}) RunError)
+    (status : ℕ) (s : Streams)
+    → EndsNumberedList form about s.input ending s.out → Reports ending status s.err
+    → (list : List ℕ) × HasLeft s.input.left list
+    × ((ReadFails s.input list → ⊥) → s.out.has_failed ≡ false
+    → Gives (about_numbered_list form about list) status s ⊎ RunsOutOfMemory status s)
+gives_numbered_list None about ending status s (list, held, writes, so_far) reports =
+    (list, held, λ r w. gives_reading _ list _ s.input ending status s writes r w reports)
 gives_numbered_list (Some form) about ending status s ends reports = gives_cells form about ending status s ends reports
+
+-- the entries of rows are refused, or not read to their end
+gives_refused_entries : (table : NamedTable) (about : List Entry → Answer) (ending : Result (Unit {0}) RunError)
+    (status : ℕ) (s : Streams)
+    → RefusesEntries table s.input ending → IsLeft s.out → Reports ending status s.err
+    → (list : List ℕ) × HasLeft s.input.left list
+    × ((ReadFails s.input list → ⊥) → Gives (about_table_rows table about list) status s ⊎ RunsOutOfMemory status s)
+gives_refused_entries table about (Ok u) status s never left reports = absurd never
+gives_refused_entries table about (Err (Error e)) status s (sound, inl late) left reports =
+    let all = late.read in (
+      all.list,
+      all.held,
+      λ r. inl (subst (λ c. Gives (unless_refused about c) status s) (sym all.is)
+          (record { output = (nothing _ _ left.0, left.1); report = reports })),
+    )
+gives_refused_entries table about (Err (Error e)) status s (sound, inr page) left reports =
+    let stop = page.stop in (
+      stop.part ++ stop.last ++ stop.rest,
+      stop.held,
+      λ r. inl (subst (λ c. Gives (unless_refused about c) status s)
+          (sym page.is) (record { output = (nothing _ _ left.0, left.1); report = reports })),
+    )
+gives_refused_entries table about (Err (Fault Memory)) status s (sound, stop) left reports =
+    (stop.part ++ stop.last ++ stop.rest, stop.held, λ r. inr (record { output = left; report = reports }))
+gives_refused_entries table about (Err (Fault Read)) status s (stop, fails) left reports =
+    (stop.part ++ stop.last ++ stop.rest, stop.held, λ r. absurd (r fails))
+gives_refused_entries table about (Err (Fault Write)) status s never left reports = absurd never
+
+-- the same of rows about whose entries is answered
+gives_entries : (table : NamedTable) (about : List Entry → Answer) (ending : Result (Unit {0}) RunError) (status : ℕ)
+    (s : Streams)
+    → EndsEntries table about s.input ending s.out → Reports ending status s.err
+    → (list : List ℕ) × HasLeft s.input.left list
+    × ((ReadFails s.input list → ⊥) → s.out.has_failed ≡ false
+    → Gives (about_table_rows table about list) status s ⊎ RunsOutOfMemory status s)
+gives_entries table about ending status s (inl (entries, (sound, all), inr (is, left))) reports =
+    (all.list, all.held, λ r w. inr (record { output = left; report = subst (λ e. Reports e status s.err) is reports }))
+gives_entries table about ending status s (inl (entries, (sound, all), inl writes)) reports = (
+  all.list,
+  all.held,
+  λ r w. inl (subst (λ c. Gives (unless_refused about c) status s) (sym all.is)
+      (gives_written (about entries) ending status s writes w reports)),
+)
+gives_entries table about ending status s (inr (refuses, left)) reports =
+    let (list, held, given) = gives_refused_entries table about ending status s refuses left reports in
+    (list, held, λ r w. given r)
 
 with_memory : {A B : Type 0} (memory : Bool) → IsTrue memory → A ⊎ B → A ⊎ (IsTrue memory × B)
 with_memory memory takes (inl a) = inl a
 with_memory memory takes (inr b) = inr (takes, b)
 
 -- a file that is refused, or not read to its end
-gives_refused : (f : CellFile) (rows : Option Form) (about : List Address → Answer) (bytes : List ℕ) (ending : Result (Unit {0}) RunError)
+gives_refused : (f : CellFile) (rows : Option Form) (about : List Address → Answer) (bytes : List ℕ)
+    (ending : Result (Unit {0}) RunError)
     (status : ℕ) (s : Streams) → RefusesFile f rows bytes s.table ending → IsLeft s.out → (ReadFails s.table bytes → ⊥)
-    → Reports ending status s.err → Gives (unless_refused about (file_cells f rows bytes)) status s ⊎ RunsOutOfMemory status s
+    → Reports ending status s.err
+    → Gives (unless_refused about (file_cells f rows bytes)) status s ⊎ RunsOutOfMemory status s
 gives_refused f rows about bytes (Ok u) status s never left r reports = absurd never
-gives_refused f rows about bytes (Err (Error e)) status s (is, sound, told) left r reports = inl (subst (λ c. Gives (unless_refused about c) status s) (sym is) (record { output = (nothing _ _ left.0, left.1); report = reports }))
-gives_refused f rows about bytes (Err (Fault Memory)) status s told left r reports = inr (record { output = left; report = reports })
+gives_refused f rows about bytes (Err (Error e)) status s (is, sound, told) left r reports =
+    inl (subst (λ c. Gives (unless_refused about c) status s) (sym is)
+    (record { output = (nothing _ _ left.0, left.1); report = reports }))
+gives_refused f rows about bytes (Err (Fault Memory)) status s told left r reports =
+    inr (record { output = left; report = reports })
 gives_refused f rows about bytes (Err (Fault Read)) status s (fails, told) left r reports = absurd (r fails)
 gives_refused f rows about bytes (Err (Fault Write)) status s never left r reports = absurd never
 
 -- the list is read after a file that has these cells
-read_after : (f : CellFile) (rows : Option Form) (bytes : List ℕ) (cells : List Address) → file_cells f rows bytes ≡ Ok cells
+read_after : (f : CellFile) (rows : Option Form) (bytes : List ℕ) (cells : List Address)
+    → file_cells f rows bytes ≡ Ok cells
     → IsTrue (is_ok (file_cells f rows bytes))
 read_after f rows bytes cells is = ap is_ok is
 
-list_answers : (f : CellFile) (rows form : Option Form) (about : List Address → List Address → Answer) (ending : Result (Unit {0}) RunError)
-    (status : ℕ) (s : Streams) → Ends (of_file_and_list f rows form about) s.input s.table ending s.out → Reports ending status s.err
+list_answers : (f : CellFile) (rows form : Option Form) (about : List Address → List Address → Answer)
+    (ending : Result (Unit {0}) RunError)
+    (status : ℕ) (s : Streams) → Ends (of_file_and_list f rows form about) s.input s.table ending s.out
+    → Reports ending status s.err
     → Answers (of_file_and_list f rows form about) status s
 list_answers f rows form about ending status s (bytes, held, inr (refuses, alone, left)) reports =
     let (list, known) = some_left s.input.left in
@@ -353,7 +661,10 @@ list_answers f rows form about ending status s (bytes, held, inr (refuses, alone
       file = bytes;
       list_is = known;
       file_is = held;
-      given = λ none. with_memory true refl (gives_refused f rows (λ cells. about_numbered_list form (about cells) list) bytes ending status s refuses left (none.table_read refl) reports);
+      given =
+          λ none. with_memory true refl (gives_refused f rows
+          (λ cells. about_numbered_list form (about cells) list) bytes ending status s refuses left
+          (none.table_read refl) reports);
     }
 list_answers f rows form about ending status s (bytes, held, inl (cells, gives, ends)) reports =
     let (list, known, given) = gives_numbered_list form (about cells) ending status s ends reports in
@@ -362,12 +673,16 @@ list_answers f rows form about ending status s (bytes, held, inl (cells, gives, 
       file = bytes;
       list_is = known;
       file_is = held;
-      given = λ none. subst (λ c. Gives (unless_refused (λ cells. about_numbered_list form (about cells) list) c) status s ⊎ (IsTrue true × RunsOutOfMemory status s)) (sym gives.is)
+      given =
+          λ none. subst (λ c. Gives (unless_refused (λ cells. about_numbered_list form (about cells) list) c) status s
+          ⊎ (IsTrue true × RunsOutOfMemory status s)) (sym gives.is)
           (with_memory true refl (given (none.list_read (read_after f rows bytes cells gives.is)) none.answer_written));
     }
 
-lines_answers : (f : CellFile) (rows form : Option Form) (about : List Address → Option ℕ → Answer) (ending : Result (Unit {0}) RunError)
-    (status : ℕ) (s : Streams) → Ends (of_file_and_lines f rows form about) s.input s.table ending s.out → Reports ending status s.err
+lines_answers : (f : CellFile) (rows form : Option Form) (about : List Address → Option ℕ → Answer)
+    (ending : Result (Unit {0}) RunError)
+    (status : ℕ) (s : Streams) → Ends (of_file_and_lines f rows form about) s.input s.table ending s.out
+    → Reports ending status s.err
     → Answers (of_file_and_lines f rows form about) status s
 lines_answers f rows form about ending status s (bytes, held, inr (refuses, alone, left)) reports =
     let (list, known) = some_left s.input.left in
@@ -376,7 +691,10 @@ lines_answers f rows form about ending status s (bytes, held, inr (refuses, alon
       file = bytes;
       list_is = known;
       file_is = held;
-      given = λ none. with_memory true refl (gives_refused f rows (λ cells. listed_answer form (about cells) list) bytes ending status s refuses left (none.table_read refl) reports);
+      given =
+          λ none. with_memory true refl (gives_refused f rows
+          (λ cells. listed_answer form (about cells) list) bytes ending status s refuses left
+          (none.table_read refl) reports);
     }
 lines_answers f rows form about ending status s (bytes, held, inl (cells, gives, ends)) reports =
     let (list, known, given) = gives_lines form (about cells) ending status s ends reports in
@@ -385,25 +703,37 @@ lines_answers f rows form about ending status s (bytes, held, inl (cells, gives,
       file = bytes;
       list_is = known;
       file_is = held;
-      given = λ none. subst (λ c. Gives (unless_refused (λ cells. listed_answer form (about cells) list) c) status s ⊎ (IsTrue true × RunsOutOfMemory status s)) (sym gives.is)
+      given =
+          λ none. subst (λ c. Gives (unless_refused (λ cells. listed_answer form (about cells) list) c) status s
+          ⊎ (IsTrue true × RunsOutOfMemory status s)) (sym gives.is)
           (with_memory true refl (given (none.list_read (read_after f rows bytes cells gives.is)) none.answer_written));
     }
 
 -- a table that is refused, or not read to its end
-gives_refused_table : (about : Links → Answer) (bytes : List ℕ) (ending : Result (Unit {0}) RunError) (status : ℕ) (s : Streams) → RefusesTableFile bytes s.table ending → IsLeft s.out → (ReadFails s.table bytes → ⊥) → Reports ending status s.err
+gives_refused_table : (about : Links → Answer) (bytes : List ℕ) (ending : Result (Unit {0}) RunError) (status : ℕ)
+    (s : Streams)
+    → RefusesTableFile bytes s.table ending → IsLeft s.out → (ReadFails s.table bytes → ⊥) → Reports ending status s.err
     → Gives (about_table about bytes) status s ⊎ RunsOutOfMemory status s
 gives_refused_table about bytes (Ok u) status s never left r reports = absurd never
 gives_refused_table about bytes (Err (Error e)) status s (fault, is, same, within, sound, whole) left r reports =
-    inl (subst (λ f. Gives (unless_faulty f (about (links_of (records_of bytes)))) status s) (sym is) (record { output = (nothing _ _ left.0, left.1); report = subst (λ d. Reports (Err (Error d)) status s.err) same reports }))
-gives_refused_table about bytes (Err (Fault Memory)) status s told left r reports = inr (record { output = left; report = reports })
+    inl (subst (λ f. Gives (unless_faulty f (about (links_of (records_of bytes)))) status s) (sym is) (record {
+      output =
+          (nothing _ _ left.0, left.1);
+      report = subst (λ d. Reports (Err (Error d)) status s.err) same reports;
+    }))
+gives_refused_table about bytes (Err (Fault Memory)) status s told left r reports =
+    inr (record { output = left; report = reports })
 gives_refused_table about bytes (Err (Fault Read)) status s fails left r reports = absurd (r fails)
 gives_refused_table about bytes (Err (Fault Write)) status s never left r reports = absurd never
 
 -- the list is read after a table that has no fault
-read_after_table : (bytes : List ℕ) → table_fault (records_of bytes) ≡ None → IsTrue (not (is_some (table_fault (records_of bytes))))
+read_after_table : (bytes : List ℕ) → table_fault (records_of bytes) ≡ None
+    → IsTrue (not (is_some (table_fault (records_of bytes))))
 read_after_table bytes is = ap (λ f. not (is_some f)) is
 
-table_answers : (form : Option Form) (about : Links → Option ℕ → Answer) (ending : Result (Unit {0}) RunError) (status : ℕ) (s : Streams) → Ends (of_table_and_lines form about) s.input s.table ending s.out → Reports ending status s.err
+table_answers : (form : Option Form) (about : Links → Option ℕ → Answer) (ending : Result (Unit {0}) RunError)
+    (status : ℕ) (s : Streams)
+    → Ends (of_table_and_lines form about) s.input s.table ending s.out → Reports ending status s.err
     → Answers (of_table_and_lines form about) status s
 table_answers form about ending status s (bytes, held, inr (refuses, alone, left)) reports =
     let (list, known) = some_left s.input.left in
@@ -412,7 +742,10 @@ table_answers form about ending status s (bytes, held, inr (refuses, alone, left
       file = bytes;
       list_is = known;
       file_is = held;
-      given = λ none. with_memory true refl (gives_refused_table (λ link. listed_answer form (about link) list) bytes ending status s refuses left (none.table_read refl) reports);
+      given =
+          λ none. with_memory true refl (gives_refused_table
+          (λ link. listed_answer form (about link) list) bytes ending status s refuses left
+          (none.table_read refl) reports);
     }
 table_answers form about ending status s (bytes, held, inl (link, gives, ends)) reports =
     let (list, known, given) = gives_lines form (about link) ending status s ends reports in
@@ -421,70 +754,161 @@ table_answers form about ending status s (bytes, held, inl (link, gives, ends)) 
       file = bytes;
       list_is = known;
       file_is = held;
-      given = λ none. subst (λ f. Gives (unless_faulty f (listed_answer form (about (links_of (records_of bytes))) list)) status s ⊎ (IsTrue true × RunsOutOfMemory status s)) (sym gives.accepted)
+      given =
+          λ none. subst (λ f. Gives
+          (unless_faulty f (listed_answer form (about (links_of (records_of bytes))) list)) status s ⊎
+          (IsTrue true × RunsOutOfMemory status s)) (sym gives.accepted)
           (subst (λ l. Gives (listed_answer form (about l) list) status s ⊎ (IsTrue true × RunsOutOfMemory status s)) gives.is
           (with_memory true refl (given (none.list_read (read_after_table bytes gives.accepted)) none.answer_written)));
     }
 
 -- a table of zones with names that is refused, or not read to its end
-gives_refused_areas : (table : NamedTable) (about : List Entry → Answer) (bytes : List ℕ) (ending : Result (Unit {0}) RunError) (status : ℕ) (s : Streams) → RefusesAreas table bytes s.table ending → IsLeft s.out → (ReadFails s.table bytes → ⊥)
-    → Reports ending status s.err → Gives (unless_refused about (areas_of_file table bytes)) status s ⊎ RunsOutOfMemory status s
-gives_refused_areas table about bytes (Ok u) status s never left r reports = absurd never
-gives_refused_areas table about bytes (Err (Error e)) status s (is, sound, told) left r reports = inl (subst (λ c. Gives (unless_refused about c) status s) (sym is) (record { output = (nothing _ _ left.0, left.1); report = reports }))
-gives_refused_areas table about bytes (Err (Fault Memory)) status s told left r reports = inr (record { output = left; report = reports })
-gives_refused_areas table about bytes (Err (Fault Read)) status s (fails, told) left r reports = absurd (r fails)
-gives_refused_areas table about bytes (Err (Fault Write)) status s never left r reports = absurd never
+gives_refused_areas : (overlapping : Bool) (table : NamedTable) (about : List Entry → Answer) (bytes : List ℕ)
+    (ending : Result (Unit {0}) RunError) (status : ℕ) (s : Streams)
+    → RefusesAreas overlapping table bytes s.table ending → IsLeft s.out → (ReadFails s.table bytes → ⊥)
+    → Reports ending status s.err
+    → Gives (unless_refused about (areas_of_file overlapping table bytes)) status s ⊎ RunsOutOfMemory status s
+gives_refused_areas overlapping table about bytes (Ok u) status s never left r reports = absurd never
+gives_refused_areas overlapping table about bytes (Err (Error e)) status s (is, sound, told) left r reports =
+    inl (subst (λ c. Gives (unless_refused about c) status s) (sym is)
+    (record { output = (nothing _ _ left.0, left.1); report = reports }))
+gives_refused_areas overlapping table about bytes (Err (Fault Memory)) status s told left r reports =
+    inr (record { output = left; report = reports })
+gives_refused_areas overlapping table about bytes (Err (Fault Read)) status s (fails, told) left r reports =
+    absurd (r fails)
+gives_refused_areas overlapping table about bytes (Err (Fault Write)) status s never left r reports = absurd never
 
 -- the list is read after a table of zones that has these names
-read_after_areas : (table : NamedTable) (bytes : List ℕ) (entries : List Entry) → areas_of_file table bytes ≡ Ok entries → IsTrue (is_ok (areas_of_file table bytes))
-read_after_areas table bytes entries is = ap is_ok is
+read_after_areas : (overlapping : Bool) (table : NamedTable) (bytes : List ℕ) (entries : List Entry)
+    → areas_of_file overlapping table bytes ≡ Ok entries → IsTrue (is_ok (areas_of_file overlapping table bytes))
+read_after_areas overlapping table bytes entries is = ap is_ok is
 
-areas_answers : (table : NamedTable) (form : List Entry → Option Form) (about : List Entry → Option ℕ → Answer) (ending : Result (Unit {0}) RunError) (status : ℕ) (s : Streams)
-    → Ends (of_areas_and_lines table form about) s.input s.table ending s.out → Reports ending status s.err → Answers (of_areas_and_lines table form about) status s
-areas_answers table form about ending status s (bytes, held, inr (refuses, alone, left)) reports =
+areas_answers : (overlapping : Bool) (table : NamedTable) (form : List Entry → Option Form)
+    (about : List Entry → Option ℕ → Answer) (ending : Result (Unit {0}) RunError) (status : ℕ) (s : Streams)
+    → Ends (of_areas_and_lines overlapping table form about) s.input s.table ending s.out → Reports ending status s.err
+    → Answers (of_areas_and_lines overlapping table form about) status s
+areas_answers overlapping table form about ending status s (bytes, held, inr (refuses, alone, left)) reports =
     let (list, known) = some_left s.input.left in
     record {
       list = list;
       file = bytes;
       list_is = known;
       file_is = held;
-      given = λ none. with_memory true refl (gives_refused_areas table (λ entries. listed_answer (form entries) (about entries) list) bytes ending status s refuses left (none.table_read refl) reports);
+      given =
+          λ none. with_memory true refl (gives_refused_areas overlapping table
+          (λ entries. listed_answer (form entries) (about entries) list) bytes ending status s refuses left
+          (none.table_read refl) reports);
     }
-areas_answers table form about ending status s (bytes, held, inl (entries, gives, ends)) reports =
+areas_answers overlapping table form about ending status s (bytes, held, inl (entries, gives, ends)) reports =
     let (list, known, given) = gives_lines (form entries) (about entries) ending status s ends reports in
     record {
       list = list;
       file = bytes;
       list_is = known;
       file_is = held;
-      given = λ none. subst (λ c. Gives (unless_refused (λ entries. listed_answer (form entries) (about entries) list) c) status s ⊎ (IsTrue true × RunsOutOfMemory status s)) (sym gives.is)
-          (with_memory true refl (given (none.list_read (read_after_areas table bytes entries gives.is)) none.answer_written));
+      given =
+          λ none. subst (λ c. Gives
+          (unless_refused (λ entries. listed_answer (form entries) (about entries) list) c) status s ⊎
+          (IsTrue true × RunsOutOfMemory status s)) (sym gives.is)
+          (with_memory true refl
+          (given (none.list_read (read_after_areas overlapping table bytes entries gives.is)) none.answer_written));
     }
 
 -- the same where the cells of the list are answered as a whole
-area_list_answers : (table : NamedTable) (form : Option Form) (about : List Entry → List Address → Answer) (ending : Result (Unit {0}) RunError) (status : ℕ) (s : Streams)
-    → Ends (of_areas_and_list table form about) s.input s.table ending s.out → Reports ending status s.err → Answers (of_areas_and_list table form about) status s
-area_list_answers table form about ending status s (bytes, held, inr (refuses, alone, left)) reports =
+area_list_answers : (overlapping : Bool) (table : NamedTable) (form : Option Form)
+    (about : List Entry → List Address → Answer) (ending : Result (Unit {0}) RunError) (status : ℕ) (s : Streams)
+    → Ends (of_areas_and_list overlapping table form about) s.input s.table ending s.out → Reports ending status s.err
+    → Answers (of_areas_and_list overlapping table form about) status s
+area_list_answers overlapping table form about ending status s (bytes, held, inr (refuses, alone, left)) reports =
     let (list, known) = some_left s.input.left in
     record {
       list = list;
       file = bytes;
       list_is = known;
       file_is = held;
-      given = λ none. with_memory true refl (gives_refused_areas table (λ entries. about_numbered_list form (about entries) list) bytes ending status s refuses left (none.table_read refl) reports);
+      given =
+          λ none. with_memory true refl (gives_refused_areas overlapping table
+          (λ entries. about_numbered_list form (about entries) list) bytes ending status s refuses left
+          (none.table_read refl) reports);
     }
-area_list_answers table form about ending status s (bytes, held, inl (entries, gives, ends)) reports =
+area_list_answers overlapping table form about ending status s (bytes, held, inl (entries, gives, ends)) reports =
     let (list, known, given) = gives_numbered_list form (about entries) ending status s ends reports in
     record {
       list = list;
       file = bytes;
       list_is = known;
       file_is = held;
-      given = λ none. subst (λ c. Gives (unless_refused (λ entries. about_numbered_list form (about entries) list) c) status s ⊎ (IsTrue true × RunsOutOfMemory status s)) (sym gives.is)
-          (with_memory true refl (given (none.list_read (read_after_areas table bytes entries gives.is)) none.answer_written));
+      given =
+          λ none. subst (λ c. Gives
+          (unless_refused (λ entries. about_numbered_list form (about entries) list) c) status s ⊎
+          (IsTrue true × RunsOutOfMemory status s)) (sym gives.is)
+          (with_memory true refl
+          (given (none.list_read (read_after_areas overlapping table bytes entries gives.is)) none.answer_written));
     }
 
-answers : (r : Request) (ending : Result (Unit {0}) RunError) (status : ℕ) (s : Streams) → Ends r s.input s.table ending s.out → Reports ending status s.err → Answers r status s
+-- the same where a second field of the list's rows is read too
+area_rows_answers : (overlapping : Bool) (areas table : NamedTable) (about : List Entry → List Entry → Answer)
+    (ending : Result (Unit {0}) RunError) (status : ℕ) (s : Streams)
+    → Ends (of_areas_and_rows overlapping areas table about) s.input s.table ending s.out → Reports ending status s.err
+    → Answers (of_areas_and_rows overlapping areas table about) status s
+area_rows_answers overlapping areas table about ending status s (bytes, held, inr (refuses, alone, left)) reports =
+    let (list, known) = some_left s.input.left in
+    record {
+      list = list;
+      file = bytes;
+      list_is = known;
+      file_is = held;
+      given =
+          λ none. with_memory true refl (gives_refused_areas overlapping areas
+          (λ entries. about_table_rows table (about entries) list) bytes ending status s refuses left
+          (none.table_read refl) reports);
+    }
+area_rows_answers overlapping areas table about ending status s (bytes, held, inl (entries, gives, ends)) reports =
+    let (list, known, given) = gives_entries table (about entries) ending status s ends reports in
+    record {
+      list = list;
+      file = bytes;
+      list_is = known;
+      file_is = held;
+      given =
+          λ none. subst (λ c. Gives (unless_refused (λ entries. about_table_rows table (about entries) list) c) status s
+          ⊎ (IsTrue true × RunsOutOfMemory status s)) (sym gives.is)
+          (with_memory true refl
+          (given (none.list_read (read_after_areas overlapping areas bytes entries gives.is)) none.answer_written));
+    }
+
+-- the same after a file of cells
+file_rows_answers : (f : CellFile) (rows : Option Form) (table : NamedTable)
+    (about : List Address → List Entry → Answer) (ending : Result (Unit {0}) RunError) (status : ℕ) (s : Streams)
+    → Ends (of_file_and_rows f rows table about) s.input s.table ending s.out → Reports ending status s.err
+    → Answers (of_file_and_rows f rows table about) status s
+file_rows_answers f rows table about ending status s (bytes, held, inr (refuses, alone, left)) reports =
+    let (list, known) = some_left s.input.left in
+    record {
+      list = list;
+      file = bytes;
+      list_is = known;
+      file_is = held;
+      given =
+          λ none. with_memory true refl (gives_refused f rows
+          (λ cells. about_table_rows table (about cells) list) bytes ending status s refuses left
+          (none.table_read refl) reports);
+    }
+file_rows_answers f rows table about ending status s (bytes, held, inl (cells, gives, ends)) reports =
+    let (list, known, given) = gives_entries table (about cells) ending status s ends reports in
+    record {
+      list = list;
+      file = bytes;
+      list_is = known;
+      file_is = held;
+      given =
+          λ none. subst (λ c. Gives (unless_refused (λ cells. about_table_rows table (about cells) list) c) status s
+          ⊎ (IsTrue true × RunsOutOfMemory status s)) (sym gives.is)
+          (with_memory true refl (given (none.list_read (read_after f rows bytes cells gives.is)) none.answer_written));
+    }
+
+answers : (r : Request) (ending : Result (Unit {0}) RunError) (status : ℕ) (s : Streams)
+    → Ends r s.input s.table ending s.out → Reports ending status s.err → Answers r status s
 answers (plain a) ending status s writes reports =
     let (list, held) = some_left s.input.left in
     let (file, kept) = some_left s.table.left in
@@ -508,15 +932,31 @@ answers (of_table about) ending status s (file, held, writes, whole) reports =
       file = file;
       list_is = kept;
       file_is = held;
-      given = λ none. with_memory true refl (gives_reading _ file _ s.table ending status s writes (none.table_read refl) none.answer_written reports);
+      given =
+          λ none. with_memory true refl
+          (gives_reading _ file _ s.table ending status s writes (none.table_read refl) none.answer_written reports);
     }
-answers (of_file_and_list f rows form about) ending status s ends reports = list_answers f rows form about ending status s ends reports
-answers (of_file_and_lines f rows form about) ending status s ends reports = lines_answers f rows form about ending status s ends reports
-answers (of_table_and_lines form about) ending status s ends reports = table_answers form about ending status s ends reports
-answers (of_areas_and_lines table form about) ending status s ends reports = areas_answers table form about ending status s ends reports
-answers (of_areas_and_list table form about) ending status s ends reports = area_list_answers table form about ending status s ends reports
+answers (of_file_and_list f rows form about) ending status s ends reports =
+    list_answers f rows form about ending status s ends reports
+answers (of_file_and_lines f rows form about) ending status s ends reports =
+    lines_answers f rows form about ending status s ends reports
+answers (of_table_and_lines form about) ending status s ends reports =
+    table_answers form about ending status s ends reports
+answers (of_areas_and_lines overlapping table form about) ending status s ends reports =
+    areas_answers overlapping table form about ending status s ends reports
+answers (of_areas_and_list overlapping table form about) ending status s ends reports =
+    area_list_answers overlapping table form about ending status s ends reports
+answers (of_rows table about) ending status s ends reports =
+    let (list, held, given) = gives_entries table about ending status s ends reports in
+    let (file, kept) = some_left s.table.left in
+    record { list = list; file = file; list_is = held; file_is = kept; given = λ none. with_memory true refl (given (none.list_read refl) none.answer_written) }
+answers (of_file_and_rows f rows table about) ending status s ends reports =
+    file_rows_answers f rows table about ending status s ends reports
+answers (of_areas_and_rows overlapping areas table about) ending status s ends reports =
+    area_rows_answers overlapping areas table about ending status s ends reports
 
 -- a run ends so, and reports it
-pub run_meets_contract : (r : Request) (ending : Result (Unit {0}) RunError) (status : ℕ) (s : Streams) → Ends r s.input s.table ending s.out → Reports ending status s.err → Runs r status s
+pub run_meets_contract : (r : Request) (ending : Result (Unit {0}) RunError) (status : ℕ) (s : Streams)
+    → Ends r s.input s.table ending s.out → Reports ending status s.err → Runs r status s
 run_meets_contract r ending status s ends reports =
     record { answers = answers r ending status s ends reports; ending = ending; ends = ends; reports = reports }

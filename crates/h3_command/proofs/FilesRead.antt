@@ -36,13 +36,15 @@ taken_whole (Some xs) (Some ys) bytes list held told known =
 
 table_whole : (form : Form) (cells : Result (List Address) AnswerError) (file : SourceUse)
     → AllRowsRead form cells file.left file.left_after → IsReadToEnd file
-table_whole form cells file all list known = taken_whole file.left file.left_after all.list list all.held all.consumed known
+table_whole form cells file all list known =
+    taken_whole file.left file.left_after all.list list all.held all.consumed known
 
 -- ---- a file that has cells
 
 -- they have no error as a whole
 pub file_given : (kind : CellFile) (form : Option Form) (file : SourceUse) (listed : List Address)
-    → GivesCells form file listed → file_error kind listed ≡ None → (bytes : List ℕ) × HasLeft file.left bytes × GivesFile kind form bytes file listed
+    → GivesCells form file listed → file_error kind listed ≡ None
+    → (bytes : List ℕ) × HasLeft file.left bytes × GivesFile kind form bytes file listed
 file_given kind None file listed told none = (
   told.list,
   told.held,
@@ -90,7 +92,8 @@ file_judged kind (Some form) file listed e (sound, all) is = (
 
 -- ---- one with a faulty line or row, or that is not read to its end
 
-bare_refused : (kind : CellFile) (file : SourceUse) (e : RunError) (told : ListRefused RefusesByLine (2 ^ 40) 65536 file e)
+bare_refused : (kind : CellFile) (file : SourceUse) (e : RunError)
+    (told : ListRefused RefusesByLine (2 ^ 40) 65536 file e)
     → RefusesFile kind None told.list file (Err (in_file kind e))
 bare_refused kind file (Error d) told =
     let (error, is, at) = told.refused in
@@ -135,13 +138,15 @@ rows_refused kind form file (Fault Read) (stop, fails) =
 rows_refused kind form file (Fault Write) never = absurd never
 
 pub file_refused : (kind : CellFile) (form : Option Form) (file : SourceUse) (e : RunError)
-    → RefusesNumbered form file e → (bytes : List ℕ) × HasLeft file.left bytes × RefusesFile kind form bytes file (Err (in_file kind e))
+    → RefusesNumbered form file e
+    → (bytes : List ℕ) × HasLeft file.left bytes × RefusesFile kind form bytes file (Err (in_file kind e))
 file_refused kind None file e told = (told.list, told.held, bare_refused kind file e told)
 file_refused kind (Some form) file e told = rows_refused kind form file e told
 
 -- ---- zones
 
 -- zones are arranged as such
-pub arranged_zones : (kind : CellFile) (listed cells : List Address) → AreArranged kind listed cells → kind ≡ Zones → IsZones cells
+pub arranged_zones : (kind : CellFile) (listed cells : List Address) → AreArranged kind listed cells → kind ≡ Zones
+    → IsZones cells
 arranged_zones Region listed cells arranged is = cc is
 arranged_zones Zones listed cells (same, zones) is = zones

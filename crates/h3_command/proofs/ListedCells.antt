@@ -16,14 +16,18 @@ use Rattle.h3_command.proofs.Endings.{list_refused, list_written, numbered_refus
 
 -- ---- what is known of a reading
 
-pub rows_given : {V : Type 0} (taken : List Address → V → Type 0) (form : Form) (input : SourceUse) (r : Result V RunError)
-    → IfOk r (λ v. (cells : List Address) × AllRowsRead form (Ok cells) input.left input.left_after × taken cells v) → IfOk r (λ v. NoReadFails input)
+pub rows_given : {V : Type 0} (taken : List Address → V → Type 0) (form : Form) (input : SourceUse)
+    (r : Result V RunError)
+    → IfOk r (λ v. (cells : List Address) × AllRowsRead form (Ok cells) input.left input.left_after × taken cells v)
+    → IfOk r (λ v. NoReadFails input)
     → IfOk r (λ v. (cells : List Address) × GivesRows form input cells × taken cells v)
 rows_given taken form input (Ok v) (cells, all, t) sound = (cells, (sound, all), t)
 rows_given taken form input (Err e) told sound = tt
 
 -- the cells that were taken are those of what was empty before
-pub items_given : {V : Type 0} (items : V → List Address) (none : List Address) (gives : List Address → Type 0) (r : Result V RunError) → none ≡ []
+pub items_given : {V : Type 0} (items : V → List Address) (none : List Address) (gives : List Address → Type 0)
+    (r : Result V RunError)
+    → none ≡ []
     → IfOk r (λ v. (cells : List Address) × gives cells × (items v ≡ none ++ cells)) → IfOk r (λ v. gives (items v))
 items_given items none gives (Ok v) empty (cells, given, is) = subst gives (sym (is ∙ ap (λ l. l ++ cells) empty)) given
 items_given items none gives (Err e) empty told = tt
@@ -31,30 +35,49 @@ items_given items none gives (Err e) empty told = tt
 -- ---- how the command ends
 
 -- a list that was read to its end is read so far where there is no memory for the answer
-read_before : (cells : List Address) (list : List ℕ) (input : SourceUse) → listed_cells list ≡ Ok cells → IsReadToEnd input → IsReadSoFar (listed_cells list) input (Err (Fault Memory))
+read_before : (cells : List Address) (list : List ℕ) (input : SourceUse) → listed_cells list ≡ Ok cells
+    → IsReadToEnd input → IsReadSoFar (listed_cells list) input (Err (Fault Memory))
 read_before cells list input is whole = subst (λ l. IsReadSoFar l input (Err (Fault Memory))) (sym is) (inl whole)
 
 -- the list is read, and the answer about its cells is written, or there is no memory for it
-pub list_ends : (form : Option Form) (about : List Address → Answer) (cells : List Address) (input : SourceUse) (ending : Result (Unit {0}) RunError) (out : SinkUse)
+pub list_ends : (form : Option Form) (about : List Address → Answer) (cells : List Address) (input : SourceUse)
+    (ending : Result (Unit {0}) RunError) (out : SinkUse)
     → GivesCells form input cells → WritesUnlessMemory (about cells) ending out → EndsList form about input ending out
 list_ends None about cells input ending out given (inl writes) = list_written about cells input ending out given writes
 list_ends None about cells input ending out given (inr (is, left)) =
-    subst (λ e. EndsList None about input e out) (sym is) (given.list, given.held, (given.sound, left), read_before cells given.list input given.is given.whole)
+    subst (λ e. EndsList None about input e out) (sym is) (
+      given.list,
+      given.held,
+      (given.sound, left),
+      read_before cells given.list input given.is given.whole,
+    )
 list_ends (Some form) about cells input ending out given writes = inl (cells, given, writes)
 
 -- the list is refused
-pub list_unanswered : (form : Option Form) (about : List Address → Answer) (input : SourceUse) (e : RunError) (out : SinkUse) → RefusesCells form input e → IsLeft out → EndsList form about input (Err e) out
+pub list_unanswered : (form : Option Form) (about : List Address → Answer) (input : SourceUse) (e : RunError)
+    (out : SinkUse)
+    → RefusesCells form input e → IsLeft out → EndsList form about input (Err e) out
 list_unanswered None about input e out refused left = list_refused about input e out refused left
 list_unanswered (Some form) about input e out refused left = inr (refused, left)
 
 -- the same two, where the error of a faulty line is reported with its number
-pub numbered_ends : (form : Option Form) (about : List Address → Answer) (cells : List Address) (input : SourceUse) (ending : Result (Unit {0}) RunError) (out : SinkUse)
-    → GivesCells form input cells → WritesUnlessMemory (about cells) ending out → EndsNumberedList form about input ending out
-numbered_ends None about cells input ending out given (inl writes) = numbered_written about cells input ending out given writes
+pub numbered_ends : (form : Option Form) (about : List Address → Answer) (cells : List Address) (input : SourceUse)
+    (ending : Result (Unit {0}) RunError) (out : SinkUse)
+    → GivesCells form input cells → WritesUnlessMemory (about cells) ending out
+    → EndsNumberedList form about input ending out
+numbered_ends None about cells input ending out given (inl writes) =
+    numbered_written about cells input ending out given writes
 numbered_ends None about cells input ending out given (inr (is, left)) =
-    subst (λ e. EndsNumberedList None about input e out) (sym is) (given.list, given.held, (given.sound, left), read_before cells given.list input given.is given.whole)
+    subst (λ e. EndsNumberedList None about input e out) (sym is) (
+      given.list,
+      given.held,
+      (given.sound, left),
+      read_before cells given.list input given.is given.whole,
+    )
 numbered_ends (Some form) about cells input ending out given writes = inl (cells, given, writes)
 
-pub numbered_unanswered : (form : Option Form) (about : List Address → Answer) (input : SourceUse) (e : RunError) (out : SinkUse) → RefusesNumbered form input e → IsLeft out → EndsNumberedList form about input (Err e) out
+pub numbered_unanswered : (form : Option Form) (about : List Address → Answer) (input : SourceUse) (e : RunError)
+    (out : SinkUse)
+    → RefusesNumbered form input e → IsLeft out → EndsNumberedList form about input (Err e) out
 numbered_unanswered None about input e out refused left = numbered_refused about input e out refused left
 numbered_unanswered (Some form) about input e out refused left = inr (refused, left)

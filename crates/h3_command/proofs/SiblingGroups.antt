@@ -32,38 +32,51 @@ own_line c r is = ap cell_lines (own c r is) ∙ append-nil (cell_line c)
 -- those of one parent after those of another
 pub group_lines : (parents : List Address) → cell_lines (flat_map children parents) ≡ flat_map children_lines parents
 group_lines [] = refl
-group_lines (p ∷ ps) = flat_map-append cell_line (children p) (flat_map children ps) ∙ ap (λ l. children_lines p ++ l) (group_lines ps)
+group_lines (p ∷ ps) =
+    flat_map-append cell_line (children p) (flat_map children ps) ∙ ap (λ l. children_lines p ++ l) (group_lines ps)
 
 -- ---- the items of several cells
 
 -- those of a cell at a resolution from its own on
-pub item_lines : (r : ℕ) (c : Address) → length c.digits ≤ r → DescendantsAreChildren → flat_map child_item_lines (items_below r c) ≡ cell_lines (descendants c r)
+pub item_lines : (r : ℕ) (c : Address) → length c.digits ≤ r → DescendantsAreChildren
+    → flat_map child_item_lines (items_below r c) ≡ cell_lines (descendants c r)
 item_lines r c fits level = by_test (nat_eq r (length c.digits)) refl
   where
-    by_test : (b : Bool) → nat_eq r (length c.digits) ≡ b → flat_map child_item_lines (if b then One c ∷ [] else map (λ parent. Group parent) (descendants c (r - 1))) ≡ cell_lines (descendants c r)
+    by_test : (b : Bool) → nat_eq r (length c.digits) ≡ b
+        → flat_map child_item_lines (if b then One c ∷ [] else map (λ parent. Group parent) (descendants c (r - 1)))
+        ≡ cell_lines (descendants c r)
     by_test true is = append-nil (cell_line c) ∙ sym (own_line c r (eqb-true _ _ is))
     by_test false is =
         let finer : length c.digits < r = omega (arith, fits, eqb-false _ _ is) in
-        flat_map-map child_item_lines (λ parent. Group parent) (descendants c (r - 1)) ∙ sym (group_lines (descendants c (r - 1))) ∙ ap cell_lines (level c r finer)
+        flat_map-map child_item_lines (λ parent. Group parent) (descendants c (r - 1))
+        ∙ sym (group_lines (descendants c (r - 1))) ∙ ap cell_lines (level c r finer)
 
 -- those below each cell of a list
-pub uncompacted_lines : (r : ℕ) (cells : List Address) → flat_map (λ c. cell_lines (descendants c r)) cells ≡ cell_lines (uncompacted cells r)
+pub uncompacted_lines : (r : ℕ) (cells : List Address)
+    → flat_map (λ c. cell_lines (descendants c r)) cells ≡ cell_lines (uncompacted cells r)
 uncompacted_lines r [] = refl
 uncompacted_lines r (c ∷ cs) =
-    ap (λ l. cell_lines (descendants c r) ++ l) (uncompacted_lines r cs) ∙ sym (flat_map-append cell_line (descendants c r) (uncompacted cs r))
+    ap (λ l. cell_lines (descendants c r) ++ l) (uncompacted_lines r cs)
+    ∙ sym (flat_map-append cell_line (descendants c r) (uncompacted cs r))
 
 -- ---- what is asked of the index of a word
 
 of_word : (word : Result ℕ H3Error) (res : ℤ)
-    → for_value (λ c. unless (descent_refusal (resolution c) res) (descendants c (unsigned_abs res))) (for_value cell_from word) ≡ for_value (λ h. cell_to_children h res) word
+    → for_value (λ c. unless (descent_refusal (resolution c) res) (descendants c (unsigned_abs res)))
+    (for_value cell_from word)
+    ≡ for_value (λ h. cell_to_children h res) word
 of_word (Ok h) res = refl
 of_word (Err e) res = refl
 
-pub no_cell : (index : Option ℕ) (res : ℤ) (e : H3Error) → cell_given index ≡ Err e → for_value (λ h. cell_to_children h res) (index_given index) ≡ Err e
+pub no_cell : (index : Option ℕ) (res : ℤ) (e : H3Error) → cell_given index ≡ Err e
+    → for_value (λ h. cell_to_children h res) (index_given index) ≡ Err e
 no_cell index res e found =
-    sym (of_word (index_given index) res) ∙ ap (for_value (λ c. unless (descent_refusal (resolution c) res) (descendants c (unsigned_abs res)))) found
+    sym (of_word (index_given index) res)
+    ∙ ap (for_value (λ c. unless (descent_refusal (resolution c) res) (descendants c (unsigned_abs res)))) found
 
 pub of_cell : (index : Option ℕ) (res : ℤ) (cell : Address) → cell_given index ≡ Ok cell
-    → for_value (λ h. cell_to_children h res) (index_given index) ≡ unless (descent_refusal (resolution cell) res) (descendants cell (unsigned_abs res))
+    → for_value (λ h. cell_to_children h res) (index_given index)
+    ≡ unless (descent_refusal (resolution cell) res) (descendants cell (unsigned_abs res))
 of_cell index res cell found =
-    sym (of_word (index_given index) res) ∙ ap (for_value (λ c. unless (descent_refusal (resolution c) res) (descendants c (unsigned_abs res)))) found
+    sym (of_word (index_given index) res)
+    ∙ ap (for_value (λ c. unless (descent_refusal (resolution c) res) (descendants c (unsigned_abs res)))) found

@@ -1,5 +1,5 @@
 -- The request of a command, and the answer to it.
-use Rattle.std.specs.Prelude.{ℕ, Bool, true, false, not, List, [], is_some, Option, None, Some, Result, Ok, Err, codes, string_bytes}
+use Rattle.std.specs.Prelude.{ℕ, Bool, true, false, not, refl, List, [], is_some, Option, None, Some, Result, Ok, Err, codes, string_bytes}
 use Rattle.std.specs.Result.{is_ok}
 use Rattle.h3_index.specs.Cell.{Address}
 use Rattle.h3_index.specs.declared.error.H3Error.{H3Error}
@@ -25,6 +25,7 @@ use Rattle.h3_functions.specs.Walks.{grid_disk_distances_unsafe, grid_disk_unsaf
 use Rattle.h3_set.specs.Compacted.{compacted}
 use Rattle.h3_command.specs.AreaCounts.{area_counts_answer}
 use Rattle.h3_command.specs.Areas.{area_answer, areas_of_file}
+use Rattle.h3_command.specs.By.{by_answer}
 use Rattle.h3_command.specs.Files.{counts_answer, covered_answer, file_cells, left_answer, shared_answer, unless_refused, zone_answer}
 use Rattle.h3_command.specs.Required.{cell_given, edge_given, index_given}
 use Rattle.h3_command.specs.LongAnswers.{between_parts, children_for, disk_distances_for, disk_for, ring_for}
@@ -34,20 +35,27 @@ use Rattle.h3_requests.specs.declared.command.IndexFunction.TheVariants as each
 use Rattle.h3_requests.specs.declared.command.Command.{Command}
 use Rattle.h3_requests.specs.declared.command.Command.TheVariants as command
 use Rattle.h3_requests.specs.declared.rows.AreaOptions.{AreaOptions}
+use Rattle.h3_requests.specs.declared.rows.CellField.{CellField}
+use Rattle.h3_requests.specs.declared.rows.RowOptions.{RowOptions}
 use Rattle.h3_requests.specs.declared.rows.Tables.{Tables}
 use Rattle.h3_lines.specs.Pieces.{rows_of}
 use Rattle.h3_rows.specs.Cells.{cells_of}
-use Rattle.h3_rows.specs.Named.{Entry, Table, table_of}
+use Rattle.h3_rows.specs.Named.{Entry, Table, named_cells, names_table, table_of}
 use Rattle.h3_rows.specs.RowsAnswer.{Form}
+use Rattle.h3_rows.specs.declared.table.FieldContent.TheVariants as content
+use Rattle.h3_command.specs.SumAnswers.{area_sums_answer}
 use Rattle.h3_command.specs.Rows.{area_form, file_form, list_form, listed_answer, pair_form, rows_form}
 
--- Request: what a command reads and writes: an answer that its words alone fix, one about the cells listed on
--- standard input, also with the number of a faulty line, one for each line of it, or one about the links of a base
--- cell table; or one about the cells of a file, and then the cells listed on standard input, or for each line of it;
--- or one about the links of a table, and then for each line of the list; or one about the areas of a table of zones with
--- names, and then for each line of the list, or about the cells listed there. The file of cells and the list may have rows in
--- a form, each in its own, in place of bare lines: the file's form comes first. After a table of zones with names the form
--- of a list that is answered line by line depends on that table: its header has the name of the new column.
+-- Request: what a command reads and writes: an answer that its words alone fix, one about the cells listed on standard
+-- input, also with the number of a faulty line, one for each line of it, or one about the links of a base cell table;
+-- or one about the cells of a file, and then the cells listed on standard input, or for each line of it; or one about
+-- the links of a table, and then for each line of the list; or one about the areas of a table of zones with names, and
+-- then for each line of the list, or about the cells listed there. The file of cells and the list may have rows in a
+-- form, each in its own, in place of bare lines: the file's form comes first. After a table of zones with names the
+-- form of a list that is answered line by line depends on that table: its header has the name of the new column. Before
+-- that table stands whether its areas may overlap. A list of rows of which a second field is read too is a table, as
+-- that of zones with names is, and is answered as a whole: alone, after a file of cells, or after a table of zones with
+-- names.
 pub data Request : Type 0 where
   plain : Answer → Request
   of_list : Option Form → (List Address → Answer) → Request
@@ -57,8 +65,11 @@ pub data Request : Type 0 where
   of_file_and_list : CellFile → Option Form → Option Form → (List Address → List Address → Answer) → Request
   of_file_and_lines : CellFile → Option Form → Option Form → (List Address → Option ℕ → Answer) → Request
   of_table_and_lines : Option Form → (Links → Option ℕ → Answer) → Request
-  of_areas_and_lines : Table → (List Entry → Option Form) → (List Entry → Option ℕ → Answer) → Request
-  of_areas_and_list : Table → Option Form → (List Entry → List Address → Answer) → Request
+  of_areas_and_lines : Bool → Table → (List Entry → Option Form) → (List Entry → Option ℕ → Answer) → Request
+  of_areas_and_list : Bool → Table → Option Form → (List Entry → List Address → Answer) → Request
+  of_rows : Table → (List Entry → Answer) → Request
+  of_file_and_rows : CellFile → Option Form → Table → (List Address → List Entry → Answer) → Request
+  of_areas_and_rows : Bool → Table → Table → (List Entry → List Entry → Answer) → Request
 
 -- with_table about r: the request about a value and a table; where there is an error in place of the value, the answer
 -- is that error, and the table is not read
@@ -74,23 +85,48 @@ shown (Count count) = printed number_line count
 shown (Cell cell) = printed cell_line cell
 shown (Edges index) = printed edge_lines (origin_to_directed_edges index)
 
--- answer_for function word: what the command of a function of one index answers, or `Failed` where the word has no index
+-- answer_for function word: what the command of a function of one index answers, or `Failed` where the word has no
+-- index
 abbrev pub answer_for : IndexFunction → Option ℕ → Answer
 answer_for function word = answer_or_error (λ h. shown (outcome_of function h)) (index_given word)
 
--- zones_request tables areas: the request of `cellsToZones`: the zone of each cell, or the name of its area if the zones have
--- names
+-- zones_request tables areas: the request of `cellsToZones`: the zone of each cell, or the names of its areas if the
+-- zones have names
 abbrev pub zones_request : Tables → Option AreaOptions → Request
-zones_request tables None = of_file_and_lines Zones (file_form tables) (rows_form tables.list (codes "zone")) zone_answer
+zones_request tables None =
+    of_file_and_lines Zones (file_form tables) (rows_form tables.list (codes "zone")) zone_answer
 zones_request tables (Some areas) =
-    of_areas_and_lines (table_of areas.table) (area_form tables.list areas.table.rows.quotes) (area_answer areas.table.rows.quotes (string_bytes areas.none))
+    of_areas_and_lines areas.overlapping (names_table areas.table) (area_form tables.list areas.table.rows.quotes)
+    (area_answer areas.table.rows.quotes (string_bytes areas.none))
 
--- counts_request tables areas: what is read and written for the counts of cells: how many lie in each zone, or, if the zones
--- have names, in each area
+-- summed list field: the rows of a list and the field of their numbers, if the list has rows and the field is given
+abbrev pub summed : Option RowOptions → Option CellField → Option (RowOptions × CellField)
+summed None field = None
+summed (Some list) None = None
+summed (Some list) (Some field) = Some (list, field)
+
+-- area_counts_request areas list sum: what is read and written for the counts of cells in areas, and of their numbers
+abbrev pub area_counts_request : AreaOptions → Option RowOptions → Option (RowOptions × CellField) → Request
+area_counts_request areas list None =
+    of_areas_and_list false (names_table areas.table) (list_form list) (area_counts_answer areas list)
+area_counts_request areas list (Some sum) =
+    of_areas_and_rows areas.overlapping (names_table areas.table) (table_of sum.0 sum.1 content.Number)
+    (area_sums_answer areas sum.0)
+
+-- counts_request tables areas: what is read and written for the counts of cells: how many lie in each zone, or, if the
+-- zones have names, in each area
 abbrev pub counts_request : Tables → Option AreaOptions → Request
 counts_request tables None = of_file_and_list Zones (file_form tables) (list_form tables.list) counts_answer
-counts_request tables (Some areas) =
-    of_areas_and_list (table_of areas.table) (list_form tables.list) (area_counts_answer areas tables.list)
+counts_request tables (Some areas) = area_counts_request areas tables.list (summed tables.list tables.sum)
+
+-- by_request by list function whole: what a command reads and writes that answers about the cells of a list by a
+-- function: if a field divides the list's rows, about those of each of the field's values; or else what is given
+abbrev pub by_request : Option CellField → Option RowOptions → (List Address → Result (List Address) H3Error) → Request
+    → Request
+by_request None list function whole = whole
+by_request (Some field) None function whole = whole
+by_request (Some field) (Some rows) function whole =
+    of_rows (table_of rows field content.Text) (by_answer rows function)
 
 -- request_of tables command: what a command reads and writes, of which the list and the file of cells have rows, or
 -- bare lines: an answer that its words alone fix, one about the cells listed on standard input, or those of rows, the
@@ -109,38 +145,65 @@ request_of tables (command.GetPentagons res) = plain (printed cell_lines (get_pe
 request_of tables (command.CellToParent cell res) = plain (answer_for (each.CellToParent res) cell)
 request_of tables (command.CellToCenterChild cell res) = plain (answer_for (each.CellToCenterChild res) cell)
 request_of tables (command.CellToLastChild cell res) = plain (answer_for (each.CellToLastChild res) cell)
-request_of tables (command.CellToChildren cell res) = plain (printed cell_lines (for_value (λ h. cell_to_children h res) (index_given cell)))
+request_of tables (command.CellToChildren cell res) =
+    plain (printed cell_lines (for_value (λ h. cell_to_children h res) (index_given cell)))
 request_of tables (command.CellToChildrenSize cell res) = plain (answer_for (each.CellToChildrenSize res) cell)
 request_of tables (command.CellToChildPos cell res) = plain (answer_for (each.CellToChildPos res) cell)
-request_of tables (command.ChildPosToCell position cell res) = plain (printed cell_line (for_value (λ h. child_pos_to_cell position h res) (index_given cell)))
-request_of tables command.CompactCells = of_list (list_form tables.list) (λ cells. printed cell_lines (compact_cells cells))
-request_of tables (command.UncompactCells res) = of_list (list_form tables.list) (λ cells. printed cell_lines (uncompact_cells res cells))
-request_of tables (command.UncompactCellsSize res) = of_numbered_list (list_form tables.list) (λ cells. printed number_line (uncompact_cells_size res cells))
-request_of tables command.UniteCells = of_numbered_list (list_form tables.list) (λ cells. written (cell_lines (compacted cells)))
-request_of tables command.IntersectCells = of_file_and_list Region (file_form tables) (list_form tables.list) shared_answer
+request_of tables (command.ChildPosToCell position cell res) =
+    plain (printed cell_line (for_value (λ h. child_pos_to_cell position h res) (index_given cell)))
+request_of tables command.CompactCells =
+    by_request tables.by tables.list compact_cells
+    (of_list (list_form tables.list) (λ cells. printed cell_lines (compact_cells cells)))
+request_of tables (command.UncompactCells res) =
+    by_request tables.by tables.list (uncompact_cells res)
+    (of_list (list_form tables.list) (λ cells. printed cell_lines (uncompact_cells res cells)))
+request_of tables (command.UncompactCellsSize res) =
+    of_numbered_list (list_form tables.list) (λ cells. printed number_line (uncompact_cells_size res cells))
+request_of tables command.UniteCells =
+    by_request tables.by tables.list (λ cells. Ok (compacted cells))
+    (of_numbered_list (list_form tables.list) (λ cells. written (cell_lines (compacted cells))))
+request_of tables command.IntersectCells =
+    of_file_and_list Region (file_form tables) (list_form tables.list) shared_answer
 request_of tables command.SubtractCells = of_file_and_list Region (file_form tables) (list_form tables.list) left_answer
-request_of tables command.AreCoveredCells = of_file_and_lines Region (file_form tables) (rows_form tables.list (codes "isCovered")) covered_answer
+request_of tables command.AreCoveredCells =
+    of_file_and_lines Region (file_form tables) (rows_form tables.list (codes "isCovered")) covered_answer
 request_of tables command.CellsToZones = zones_request tables tables.areas
 request_of tables command.CountCellsInZones = counts_request tables tables.areas
-request_of tables (command.GridDiskUnsafe cell k) = with_table (λ c link. answer_or_error (walked cell_line) (grid_disk_unsafe link c k)) (cell_given cell)
-request_of tables (command.GridDiskDistancesUnsafe cell k) = with_table (λ c link. answer_or_error (walked ring_line) (grid_disk_distances_unsafe link c k)) (cell_given cell)
-request_of tables (command.GridRingUnsafe cell k) = with_table (λ c link. answer_or_error (walked cell_line) (grid_ring_unsafe link c k)) (cell_given cell)
-request_of tables (command.AreNeighborCells cell to) = with_table (λ cells link. printed truth_line (are_neighbor_cells link cells)) (pair_of (cell_given cell) (cell_given to))
-request_of tables (command.CellsToDirectedEdge cell to) = with_table (λ cells link. printed edge_line (cells_to_directed_edge link cells)) (pair_of (cell_given cell) (cell_given to))
+request_of tables (command.GridDiskUnsafe cell k) =
+    with_table (λ c link. answer_or_error (walked cell_line) (grid_disk_unsafe link c k)) (cell_given cell)
+request_of tables (command.GridDiskDistancesUnsafe cell k) =
+    with_table (λ c link. answer_or_error (walked ring_line) (grid_disk_distances_unsafe link c k)) (cell_given cell)
+request_of tables (command.GridRingUnsafe cell k) =
+    with_table (λ c link. answer_or_error (walked cell_line) (grid_ring_unsafe link c k)) (cell_given cell)
+request_of tables (command.AreNeighborCells cell to) =
+    with_table (λ cells link. printed truth_line (are_neighbor_cells link cells))
+    (pair_of (cell_given cell) (cell_given to))
+request_of tables (command.CellsToDirectedEdge cell to) =
+    with_table (λ cells link. printed edge_line (cells_to_directed_edge link cells))
+    (pair_of (cell_given cell) (cell_given to))
 request_of tables (command.IsValidDirectedEdge edge) = plain (answer_for each.IsValidDirectedEdge edge)
 request_of tables (command.GetDirectedEdgeOrigin edge) = plain (answer_for each.GetDirectedEdgeOrigin edge)
-request_of tables (command.GetDirectedEdgeDestination edge) = with_table (λ e link. printed cell_line (get_directed_edge_destination link e)) (edge_given edge)
+request_of tables (command.GetDirectedEdgeDestination edge) =
+    with_table (λ e link. printed cell_line (get_directed_edge_destination link e)) (edge_given edge)
 request_of tables (command.OriginToDirectedEdges cell) = plain (answer_for each.OriginToDirectedEdges cell)
-request_of tables (command.CellsToChildren res) = of_lines (rows_form tables.list (codes "cellToChildren")) (children_for res)
-request_of tables (command.GridDisksUnsafe k) = of_table_and_lines (rows_form tables.list (codes "gridDiskUnsafe")) (λ link. disk_for link k)
-request_of tables (command.GridDisksDistancesUnsafe k) = of_table_and_lines (pair_form tables.list) (λ link. disk_distances_for (between_parts tables.list) link k)
-request_of tables (command.GridRingsUnsafe k) = of_table_and_lines (rows_form tables.list (codes "gridRingUnsafe")) (λ link. ring_for link k)
-request_of tables command.GetDirectedEdgeDestinations = of_table_and_lines (rows_form tables.list (codes "getDirectedEdgeDestination")) destination_answer
-request_of tables (command.ForEach function) = of_lines (rows_form tables.list (function_name function)) (answer_for function)
+request_of tables (command.CellsToChildren res) =
+    of_lines (rows_form tables.list (codes "cellToChildren")) (children_for res)
+request_of tables (command.GridDisksUnsafe k) =
+    of_table_and_lines (rows_form tables.list (codes "gridDiskUnsafe")) (λ link. disk_for link k)
+request_of tables (command.GridDisksDistancesUnsafe k) =
+    of_table_and_lines (pair_form tables.list) (λ link. disk_distances_for (between_parts tables.list) link k)
+request_of tables (command.GridRingsUnsafe k) =
+    of_table_and_lines (rows_form tables.list (codes "gridRingUnsafe")) (λ link. ring_for link k)
+request_of tables command.GetDirectedEdgeDestinations =
+    of_table_and_lines (rows_form tables.list (codes "getDirectedEdgeDestination")) destination_answer
+request_of tables (command.ForEach function) =
+    of_lines (rows_form tables.list (function_name function)) (answer_for function)
 
 -- request command: the same of a command whose list and file have bare lines
 abbrev pub request : Command → Request
-request c = request_of (record { list = None; file = None; areas = None }) c
+request c =
+    request_of
+    (record { list = None; sum = None; by = None; file = None; areas = None; sum_counted = refl; by_counted = refl }) c
 
 -- reads_list r: the request reads the list
 abbrev pub reads_list : Request → Bool
@@ -152,8 +215,11 @@ reads_list (of_table about) = false
 reads_list (of_file_and_list f rows form about) = true
 reads_list (of_file_and_lines f rows form about) = true
 reads_list (of_table_and_lines form about) = true
-reads_list (of_areas_and_lines table form about) = true
-reads_list (of_areas_and_list table form about) = true
+reads_list (of_areas_and_lines overlapping table form about) = true
+reads_list (of_areas_and_list overlapping table form about) = true
+reads_list (of_rows table about) = true
+reads_list (of_file_and_rows f rows table about) = true
+reads_list (of_areas_and_rows overlapping areas table about) = true
 
 -- reads_table r: it reads the table, or a file of cells in its place
 abbrev pub reads_table : Request → Bool
@@ -165,8 +231,11 @@ reads_table (of_table about) = true
 reads_table (of_file_and_list f rows form about) = true
 reads_table (of_file_and_lines f rows form about) = true
 reads_table (of_table_and_lines form about) = true
-reads_table (of_areas_and_lines table form about) = true
-reads_table (of_areas_and_list table form about) = true
+reads_table (of_areas_and_lines overlapping table form about) = true
+reads_table (of_areas_and_list overlapping table form about) = true
+reads_table (of_rows table about) = false
+reads_table (of_file_and_rows f rows table about) = true
+reads_table (of_areas_and_rows overlapping areas table about) = true
 
 -- the list is read where the bytes of the table, or of the file of cells, are these: not where the file is refused that
 -- comes before it
@@ -174,8 +243,10 @@ abbrev pub reads_list_after : Request → List ℕ → Bool
 reads_list_after (of_file_and_list f rows form about) file = is_ok (file_cells f rows file)
 reads_list_after (of_file_and_lines f rows form about) file = is_ok (file_cells f rows file)
 reads_list_after (of_table_and_lines form about) file = not (is_some (table_fault (records_of file)))
-reads_list_after (of_areas_and_lines table form about) file = is_ok (areas_of_file table file)
-reads_list_after (of_areas_and_list table form about) file = is_ok (areas_of_file table file)
+reads_list_after (of_areas_and_lines overlapping table form about) file = is_ok (areas_of_file overlapping table file)
+reads_list_after (of_areas_and_list overlapping table form about) file = is_ok (areas_of_file overlapping table file)
+reads_list_after (of_file_and_rows f rows table about) file = is_ok (file_cells f rows file)
+reads_list_after (of_areas_and_rows overlapping areas table about) file = is_ok (areas_of_file overlapping areas file)
 reads_list_after r file = reads_list r
 
 -- takes_memory r: it takes memory
@@ -188,8 +259,11 @@ takes_memory (of_table about) = true
 takes_memory (of_file_and_list f rows form about) = true
 takes_memory (of_file_and_lines f rows form about) = true
 takes_memory (of_table_and_lines form about) = true
-takes_memory (of_areas_and_lines table form about) = true
-takes_memory (of_areas_and_list table form about) = true
+takes_memory (of_areas_and_lines overlapping table form about) = true
+takes_memory (of_areas_and_list overlapping table form about) = true
+takes_memory (of_rows table about) = true
+takes_memory (of_file_and_rows f rows table about) = true
+takes_memory (of_areas_and_rows overlapping areas table about) = true
 
 -- ---- the answer
 
@@ -207,13 +281,13 @@ unless_faulty (Some e) a = table_refused e
 abbrev pub about_table : (Links → Answer) → List ℕ → Answer
 about_table about file = unless_faulty (table_fault (records_of file)) (about (links_of (records_of file)))
 
--- about_rows form about list: the answer about the cells of the rows in a list of bytes, or the error of the first row that
--- ends the list, reported with its number, or of the column that a header lacks
+-- about_rows form about list: the answer about the cells of the rows in a list of bytes, or the error of the first row
+-- that ends the list, reported with its number, or of the column that a header lacks
 abbrev pub about_rows : Form → (List Address → Answer) → List ℕ → Answer
 about_rows form about list = unless_refused about (cells_of form (rows_of form.quotes list))
 
--- about_list form about list: the answer about the cells in a list of bytes, or the error of the first faulty line; or about
--- those of its rows
+-- about_list form about list: the answer about the cells in a list of bytes, or the error of the first faulty line; or
+-- about those of its rows
 abbrev pub about_list : Option Form → (List Address → Answer) → List ℕ → Answer
 about_list None about list = answer_or_error about (listed_cells list)
 about_list (Some form) about list = about_rows form about list
@@ -223,8 +297,14 @@ abbrev pub about_numbered_list : Option Form → (List Address → Answer) → L
 about_numbered_list None about list = answer_or_error_at (faulty_line list) about (listed_cells list)
 about_numbered_list (Some form) about list = about_rows form about list
 
--- answer_to r list file: the answer to a request, for the bytes of its list and those of its table, or of a file of cells in its
--- place: where a file that comes before the list is refused, the list has no part in the answer
+-- about_table_rows table about list: the answer about the entries of the rows in a list of bytes: each a cell and its
+-- second field; or the error of the first row that ends the list, reported with its number, or of a column that a
+-- header lacks
+abbrev pub about_table_rows : Table → (List Entry → Answer) → List ℕ → Answer
+about_table_rows table about list = unless_refused about (named_cells table (rows_of table.form.quotes list))
+
+-- answer_to r list file: the answer to a request, for the bytes of its list and those of its table, or of a file of
+-- cells in its place: where a file that comes before the list is refused, the list has no part in the answer
 abbrev pub answer_to : Request → List ℕ → List ℕ → Answer
 answer_to (plain a) list file = a
 answer_to (of_list form about) list file = about_list form about list
@@ -236,10 +316,15 @@ answer_to (of_file_and_list f rows form about) list file =
 answer_to (of_file_and_lines f rows form about) list file =
     unless_refused (λ cells. listed_answer form (about cells) list) (file_cells f rows file)
 answer_to (of_table_and_lines form about) list file = about_table (λ link. listed_answer form (about link) list) file
-answer_to (of_areas_and_lines table form about) list file =
-    unless_refused (λ entries. listed_answer (form entries) (about entries) list) (areas_of_file table file)
-answer_to (of_areas_and_list table form about) list file =
-    unless_refused (λ entries. about_numbered_list form (about entries) list) (areas_of_file table file)
+answer_to (of_areas_and_lines overlapping table form about) list file =
+    unless_refused (λ entries. listed_answer (form entries) (about entries) list) (areas_of_file overlapping table file)
+answer_to (of_areas_and_list overlapping table form about) list file =
+    unless_refused (λ entries. about_numbered_list form (about entries) list) (areas_of_file overlapping table file)
+answer_to (of_rows table about) list file = about_table_rows table about list
+answer_to (of_file_and_rows f rows table about) list file =
+    unless_refused (λ cells. about_table_rows table (about cells) list) (file_cells f rows file)
+answer_to (of_areas_and_rows overlapping areas table about) list file =
+    unless_refused (λ entries. about_table_rows table (about entries) list) (areas_of_file overlapping areas file)
 
 -- the answer to a command. Examples alone cite it.
 abbrev pub answer : Command → List ℕ → List ℕ → Answer

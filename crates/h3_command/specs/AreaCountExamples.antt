@@ -20,29 +20,33 @@ use Rattle.h3_command.specs.Rows.{title_or_zone}
 -- the counts, after commas and with a header
 abbrev headed : List Entry → List Address → Answer
 headed entries cells =
-    written (counts_table 44 (Some (title_or_zone entries)) (area_counts [] (area_names true entries) (area_cells true entries) cells))
+    written (counts_table 44 (Some (title_or_zone entries))
+    (area_counts [] (area_names true entries) (area_cells true entries) cells))
 
 -- without one, and `-` for none
 abbrev headless : List Entry → List Address → Answer
-headless entries cells = written (counts_table 44 None (area_counts (codes "-") (area_names true entries) (area_cells true entries) cells))
+headless entries cells =
+    written (counts_table 44 None (area_counts (codes "-") (area_names true entries) (area_cells true entries) cells))
 
 -- a list of rows whose cell is in the column `cell`
 abbrev rows : Option Form
 rows = Some (commas (Named (codes "cell")) true ([] ∷ []) false)
 
 -- each area in the order of its first row, once, and none at last
-counts_of_rows : answer_to (of_areas_and_list (in_columns (codes "zone")) rows headed) trips worked
+counts_of_rows : answer_to (of_areas_and_list false (in_columns (codes "zone")) rows headed) trips worked
     ≡ written (codes "zone,count" ++ 10 ∷ codes "north,1" ++ 10 ∷ south ++ codes ",1" ++ 10 ∷ codes ",1" ++ 10 ∷ [])
 unfolding digits parsed_index cell_in address_in number_of
 counts_of_rows = refl
 
 -- of a bare list, with an area without a cell, by a table without a header
-counts_of_lines : answer_to (of_areas_and_list in_fields None headless) (q ++ 10 ∷ x ++ 10 ∷ q ++ 10 ∷ []) (codes "north," ++ p ++ 10 ∷ codes "south," ++ q ++ 10 ∷ [])
+counts_of_lines : answer_to (of_areas_and_list false in_fields None headless) (q ++ 10 ∷ x ++ 10 ∷ q ++ 10 ∷ [])
+    (codes "north," ++ p ++ 10 ∷ codes "south," ++ q ++ 10 ∷ [])
     ≡ written (codes "north,0" ++ 10 ∷ codes "south,2" ++ 10 ∷ codes "-,1" ++ 10 ∷ [])
 unfolding digits parsed_index cell_in address_in number_of
 counts_of_lines = refl
 
 -- no counts where two areas overlap
-uncounted : answer_to (of_areas_and_list (in_columns (codes "zone")) rows headed) trips overlapping ≡ record { output = []; ending = Err (File Zones DuplicateInput) }
+uncounted : answer_to (of_areas_and_list false (in_columns (codes "zone")) rows headed) trips overlapping
+    ≡ record { output = []; ending = Err (File Zones DuplicateInput) }
 unfolding parsed_index cell_in address_in number_of
 uncounted = refl

@@ -17,8 +17,8 @@ use Rattle.h3_command.specs.Rows.{title_or_zone}
 abbrev pub area_count : List (List ℕ) → List (Address × ℕ) → List Address → ℕ → List ℕ × ℕ
 area_count names areas cells n = (get_or names n [], count_in_area areas cells n)
 
--- area_counts none names areas cells: each area, in order, with how many of the cells lie in it; and then `none` with how
--- many lie in no area
+-- area_counts none names areas cells: each area, in order, with how many of the cells lie in it; and then `none` with
+-- how many lie in no area
 abbrev pub area_counts : List ℕ → List (List ℕ) → List (Address × ℕ) → List Address → List (List ℕ × ℕ)
 area_counts none names areas cells =
     map (area_count names areas cells) (range_with_len 0 (length names)) ++ (none, count_in_none areas cells) ∷ []
@@ -29,8 +29,8 @@ area_counts none names areas cells =
 abbrev pub count_row : ℕ → List ℕ × ℕ → List ℕ
 count_row separator row = row.0 ++ separator ∷ number_line row.1
 
--- header_row separator title: the title of the column of names, the separator, `count` and a line feed; nothing if there is
--- no title
+-- header_row separator title: the title of the column of names, the separator, `count` and a line feed; nothing if
+-- there is no title
 abbrev pub header_row : ℕ → Option (List ℕ) → List ℕ
 header_row separator None = []
 header_row separator (Some title) = title ++ separator ∷ (codes "count" ++ 10 ∷ [])
@@ -44,25 +44,29 @@ abbrev pub has_header : AreaOptions → Option RowOptions → Bool
 has_header options None = options.table.rows.has_header
 has_header options (Some rows) = options.table.rows.has_header || rows.has_header
 
--- counts_title options list entries: the title of the column of names in the header, if there is a header: the one that it has
--- in the table of zones, or else `zone`
+-- counts_title options list entries: the title of the column of names in the header, if there is a header: the one that
+-- it has in the table of zones, or else `zone`
 abbrev pub counts_title : AreaOptions → Option RowOptions → List Entry → Option (List ℕ)
 counts_title options list entries =
     if has_header options list then Some (title_or_zone entries) else None
 
--- area_counts_answer options list entries cells: how many of the cells lie in each of the areas of a table of zones, and how many
--- in none, as a table in the form of that one
+-- area_counts_answer options list entries cells: how many of the cells lie in each of the areas of a table of zones,
+-- and how many in none, as a table in the form of that one
 abbrev pub area_counts_answer : AreaOptions → Option RowOptions → List Entry → List Address → Answer
 area_counts_answer options list entries cells =
     let rows = options.table.rows in
-    let counts = area_counts (string_bytes options.none) (area_names rows.quotes entries) (area_cells rows.quotes entries) cells in
+    let counts =
+    area_counts (string_bytes options.none) (area_names rows.quotes entries)
+    (area_cells rows.quotes entries) cells in
     written (counts_table rows.separator (counts_title options list entries) counts)
 
 -- ---- a law
 
--- AreaCountsPrintedAddUp: the numbers in the rows of the counts of areas of which no two overlap add up to the number of cells
--- that are counted
+-- AreaCountsPrintedAddUp: the numbers in the rows of the counts of areas of which no two overlap add up to the number
+-- of cells that are counted
 abbrev pub AreaCountsPrintedAddUp : Type 0
 AreaCountsPrintedAddUp =
-    (quotes : Bool) (none : List ℕ) (entries : List Entry) (cells : List Address) → areas_refusal (area_cells quotes entries) ≡ None
-    → sum (map (λ row. row.1) (area_counts none (area_names quotes entries) (area_cells quotes entries) cells)) ≡ length cells
+    (quotes : Bool) (none : List ℕ) (entries : List Entry) (cells : List Address)
+    → areas_refusal (area_cells quotes entries) ≡ None
+    → sum (map (λ row. row.1) (area_counts none (area_names quotes entries) (area_cells quotes entries) cells))
+    ≡ length cells

@@ -13,6 +13,7 @@ use Rattle.h3_lines.specs.declared.run_error.RowError.TheVariants.{Bad}
 use Rattle.h3_lines.specs.declared.run_error.RowFault.TheVariants.{NoSuchField, NotAnIndex}
 use Rattle.h3_rows.specs.Areas.{area_cells, title_of}
 use Rattle.h3_rows.specs.Named.{Entry, Table}
+use Rattle.h3_rows.specs.declared.table.FieldContent.TheVariants.{Text}
 use Rattle.h3_rows.specs.RowsAnswer.{After, Choice, Form, Named}
 use Rattle.h3_command.specs.Answer.{answer_to, reads_list_after}
 use Rattle.h3_command.specs.Answer.Request.{of_areas_and_lines}
@@ -36,11 +37,12 @@ commas choice has_header names quoted = record {
 
 -- the cells are in the column `cell`, and the names in one with this name
 abbrev pub in_columns : List ℕ → Table
-in_columns name = record { form = commas (Named (codes "cell")) true ([] ∷ []) false; name = Named name }
+in_columns name =
+    record { form = commas (Named (codes "cell")) true ([] ∷ []) false; name = Named name; content = Text }
 
 -- the cells are in the second field, and the names in the first, without a header
 abbrev pub in_fields : Table
-in_fields = record { form = commas (After 1) false ([] ∷ []) false; name = After 0 }
+in_fields = record { form = commas (After 1) false ([] ∷ []) false; name = After 0; content = Text }
 
 -- a list of rows whose cell is in the column `cell`
 abbrev rows : List Entry → Option Form
@@ -69,24 +71,31 @@ south = 34 ∷ codes "south, old" ++ 34 ∷ []
 
 -- two areas, of which one is in two rows, and a row without a cell
 abbrev pub worked : List ℕ
-worked = codes "zone,cell" ++ 10 ∷ codes "north," ++ p ++ 10 ∷ south ++ 44 ∷ q ++ 10 ∷ codes "north," ++ p ++ 10 ∷ codes "none," ++ 10 ∷ []
+worked =
+    codes "zone,cell" ++ 10 ∷ codes "north," ++ p ++ 10 ∷ south ++ 44 ∷ q ++ 10 ∷ codes "north," ++ p ++ 10
+    ∷ codes "none," ++ 10 ∷ []
 
 -- a row in each of these, one in none, and one without a cell
 abbrev pub trips : List ℕ
 trips =
-    codes "id,cell,amount" ++ 10 ∷ codes "1," ++ p ++ codes ",1.50" ++ 10 ∷ codes "2," ++ q ++ codes ",2" ++ 10 ∷ codes "3," ++ x ++ codes ",-0.5" ++ 10 ∷ codes "4,,7"
+    codes "id,cell,amount" ++ 10 ∷ codes "1," ++ p ++ codes ",1.50" ++ 10 ∷ codes "2," ++ q ++ codes ",2" ++ 10
+    ∷ codes "3," ++ x ++ codes ",-0.5" ++ 10 ∷ codes "4,,7"
     ++ 10 ∷ []
 
 -- ---- answers
 
 -- each row with the name of its area, in a column that is called as the table's own
-names_beside_rows : answer_to (of_areas_and_lines (in_columns (codes "zone")) rows (area_answer true [])) trips worked
-    ≡ written (codes "id,cell,amount,zone" ++ 10 ∷ codes "1," ++ p ++ codes ",1.50,north" ++ 10 ∷ codes "2," ++ q ++ codes ",2," ++ south ++ 10 ∷ codes "3," ++ x ++ codes ",-0.5," ++ 10 ∷ codes "4,,7," ++ 10 ∷ [])
+names_beside_rows : answer_to (of_areas_and_lines false (in_columns (codes "zone")) rows (area_answer true
+    [])) trips worked
+    ≡ written (codes "id,cell,amount,zone" ++ 10 ∷ codes "1," ++ p ++ codes ",1.50,north" ++ 10 ∷ codes "2," ++ q
+    ++ codes ",2," ++ south ++ 10 ∷ codes "3," ++ x ++ codes ",-0.5," ++ 10 ∷ codes "4,,7," ++ 10 ∷ [])
 unfolding parsed_index cell_in address_in number_of areas_of
 names_beside_rows = refl
 
 -- a bare list, and a text for the cells in no area
-names_of_lines : answer_to (of_areas_and_lines (in_columns (codes "zone")) bare (area_answer true (codes "-"))) (p ++ 10 ∷ x ++ 10 ∷ []) worked ≡ written (codes "north" ++ 10 ∷ codes "-" ++ 10 ∷ [])
+names_of_lines : answer_to (of_areas_and_lines false (in_columns (codes "zone")) bare (area_answer true (codes "-")))
+    (p ++ 10 ∷ x ++ 10 ∷ []) worked
+    ≡ written (codes "north" ++ 10 ∷ codes "-" ++ 10 ∷ [])
 unfolding parsed_index cell_in address_in number_of areas_of
 names_of_lines = refl
 
@@ -96,27 +105,52 @@ names_of_lines = refl
 abbrev pub overlapping : List ℕ
 overlapping = worked ++ codes "all," ++ c ++ 10 ∷ []
 
-areas_overlap : areas_of_file (in_columns (codes "zone")) overlapping ≡ Err (File Zones DuplicateInput)
+areas_overlap : areas_of_file false (in_columns (codes "zone")) overlapping ≡ Err (File Zones DuplicateInput)
 unfolding parsed_index cell_in address_in number_of
 areas_overlap = refl
 
+-- where they may overlap, each row stands once for each of its areas: first with the one whose cell is coarser, though
+-- that comes last in the table
+names_of_overlapping : answer_to (of_areas_and_lines true (in_columns (codes "zone")) rows (area_answer true
+    [])) trips overlapping
+    ≡ written (codes "id,cell,amount,zone" ++ 10 ∷ codes "1," ++ p ++ codes ",1.50,all" ++ 10 ∷ codes "1," ++ p
+    ++ codes ",1.50,north" ++ 10 ∷ codes "2," ++ q ++ codes ",2,all" ++ 10 ∷ codes "2," ++ q ++ codes ",2," ++ south
+    ++ 10 ∷ codes "3," ++ x ++ codes ",-0.5," ++ 10 ∷ codes "4,,7," ++ 10 ∷ [])
+unfolding parsed_index cell_in address_in number_of areas_of
+names_of_overlapping = refl
+
+-- and a bare list has a line for each
+lines_of_overlapping : answer_to
+    (of_areas_and_lines true (in_columns (codes "zone")) bare (area_answer true (codes "-"))) (p ++ 10 ∷ x ++ 10 ∷
+    []) overlapping
+    ≡ written (codes "all" ++ 10 ∷ codes "north" ++ 10 ∷ codes "-" ++ 10 ∷ [])
+unfolding parsed_index cell_in address_in number_of areas_of
+lines_of_overlapping = refl
+
 -- the list has no part in the answer then, be it faulty or not
-list_left : map (λ list. answer_to (of_areas_and_lines (in_columns (codes "zone")) rows (area_answer true [])) list overlapping) (trips ∷ codes "x" ∷ [])
-    ≡ record { output = []; ending = Err (File Zones DuplicateInput) } ∷ record { output = []; ending = Err (File Zones DuplicateInput) } ∷ []
+list_left : map (λ list. answer_to (of_areas_and_lines false (in_columns (codes "zone")) rows (area_answer true
+    [])) list overlapping) (trips ∷ codes "x" ∷ [])
+    ≡ record { output = []; ending = Err (File Zones DuplicateInput) }
+    ∷ record { output = []; ending = Err (File Zones DuplicateInput) } ∷ []
 unfolding parsed_index cell_in address_in number_of
 list_left = refl
 
-list_read : map (reads_list_after (of_areas_and_lines (in_columns (codes "zone")) rows (area_answer true []))) (worked ∷ overlapping ∷ []) ≡ true ∷ false ∷ []
+list_read : map (reads_list_after (of_areas_and_lines false (in_columns (codes "zone")) rows (area_answer true [])))
+    (worked ∷ overlapping ∷ [])
+    ≡ true ∷ false ∷ []
 unfolding parsed_index cell_in address_in number_of
 list_read = refl
 
-missed_columns : map (λ name. areas_of_file (in_columns name) worked) (codes "zones" ∷ codes "cell " ∷ []) ≡ Err (FileColumn Zones NotFound) ∷ Err (FileColumn Zones NotFound) ∷ []
+missed_columns : map (λ name. areas_of_file false (in_columns name) worked) (codes "zones" ∷ codes "cell " ∷ [])
+    ≡ Err (FileColumn Zones NotFound) ∷ Err (FileColumn Zones NotFound) ∷ []
 missed_columns = refl
 
-two_columns : areas_of_file (in_columns (codes "zone")) (codes "zone,cell,zone") ≡ Err (FileColumn Zones NotUnique)
+two_columns : areas_of_file false (in_columns (codes "zone")) (codes "zone,cell,zone")
+    ≡ Err (FileColumn Zones NotUnique)
 two_columns = refl
 
 -- a faulty row comes before an overlap
-faulty_first : areas_of_file in_fields (codes "a," ++ p ++ 10 ∷ codes "b," ++ p ++ 10 ∷ codes "c,y") ≡ Err (FileAtRow Zones 3 (Bad NotAnIndex))
+faulty_first : areas_of_file false in_fields (codes "a," ++ p ++ 10 ∷ codes "b," ++ p ++ 10 ∷ codes "c,y")
+    ≡ Err (FileAtRow Zones 3 (Bad NotAnIndex))
 unfolding parsed_index cell_in address_in number_of
 faulty_first = refl

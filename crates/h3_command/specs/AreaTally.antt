@@ -1,5 +1,5 @@
--- Cells that are counted by areas one after another, and the rows of the counts. Private contracts and proofs alone cite this
--- file.
+-- Cells that are counted by areas one after another, and the rows of the counts. Private contracts and proofs alone
+-- cite this file.
 use Rattle.std.proofs.Common.{◌≡◌, ◌∙◌, ℕ, List, [], ◌++◌, append-nil, append_assoc, get_or, length, map, refl, subst, sym}
 use Rattle.std.specs.List.{range_with_len}
 use Rattle.h3_index.specs.Cell.{Address}
@@ -9,9 +9,11 @@ use Rattle.h3_regions.specs.AreaCounting.{AreAreaCounts}
 abbrev pub AreaCountsMore : List (Address × ℕ) → List ℕ → ℕ → List Address → List ℕ → ℕ → Type 0
 AreaCountsMore areas counts none cells counts' none' =
     (length counts' ≡ length counts)
-    × ((before : List Address) → AreAreaCounts areas before counts none → AreAreaCounts areas (before ++ cells) counts' none')
+    × ((before : List Address) → AreAreaCounts areas before counts none
+    → AreAreaCounts areas (before ++ cells) counts' none')
 
-pub area_counts_none : (areas : List (Address × ℕ)) (counts : List ℕ) (none : ℕ) → AreaCountsMore areas counts none [] counts none
+pub area_counts_none : (areas : List (Address × ℕ)) (counts : List ℕ) (none : ℕ)
+    → AreaCountsMore areas counts none [] counts none
 area_counts_none areas counts none =
     (refl, λ before h. subst (λ cells. AreAreaCounts areas cells counts none) (sym (append-nil before)) h)
 

@@ -1,5 +1,6 @@
--- Tables of zones with names: how the areas of one are judged, and the name of the area that a cell lies in.
-use Rattle.std.specs.Prelude.{ℕ, Bool, List, [], ◌∷◌, ◌++◌, get_or, Option, None, Some, Result, Ok, Err}
+-- Tables of zones with names: how the areas of one are judged, and the names of the areas that a cell lies in.
+use Rattle.std.specs.Prelude.{ℕ, Bool, true, false, List, [], ◌∷◌, ◌++◌, get_or, map, Option, None, Some, Result, Ok, Err}
+use Rattle.std.specs.List.{flat_map}
 use Rattle.h3_index.specs.Cell.{Address}
 use Rattle.h3_index.specs.declared.error.H3Error.{H3Error}
 use Rattle.h3_regions.specs.Areas.{areas_of}
@@ -21,11 +22,18 @@ abbrev pub unless_overlapping : Option H3Error → List Entry → Result (List E
 unless_overlapping None entries = Ok entries
 unless_overlapping (Some e) entries = Err (File Zones e)
 
--- judged_areas quotes read: what is read of a table, if no two of its areas overlap; the error of a row, or of the columns of
--- the header, is that of the file
-abbrev pub judged_areas : Bool → Result (List Entry) AnswerError → Result (List Entry) AnswerError
-judged_areas quotes (Ok entries) = unless_overlapping (areas_refusal (area_cells quotes entries)) entries
-judged_areas quotes (Err e) = Err (error_of_file Zones e)
+-- overlap_error overlapping areas: the error of areas as a whole: none if they may overlap, else `DuplicateInput` if
+-- two do
+abbrev pub overlap_error : Bool → List (Address × ℕ) → Option H3Error
+overlap_error true areas = None
+overlap_error false areas = areas_refusal areas
+
+-- judged_areas overlapping quotes read: what is read of a table, if no two of its areas overlap, or they may; the error
+-- of a row, or of the columns of the header, is that of the file
+abbrev pub judged_areas : Bool → Bool → Result (List Entry) AnswerError → Result (List Entry) AnswerError
+judged_areas overlapping quotes (Ok entries) =
+    unless_overlapping (overlap_error overlapping (area_cells quotes entries)) entries
+judged_areas overlapping quotes (Err e) = Err (error_of_file Zones e)
 
 -- entries_of_table table bytes: the cells with their names in the bytes of a table, and the name in its header; or the
 -- error of the first row that has one; or else, if a column is awaited by its name and no header comes, that it is not
@@ -33,31 +41,33 @@ judged_areas quotes (Err e) = Err (error_of_file Zones e)
 abbrev pub entries_of_table : Table → List ℕ → Result (List Entry) AnswerError
 entries_of_table table bytes = named_cells table (rows_of table.form.quotes bytes)
 
--- areas_of_file table bytes: the entries of the table in these bytes, or its error as a file of zones: that of
--- `entries_of_table`, or `DuplicateInput` if two of its areas overlap
-abbrev pub areas_of_file : Table → List ℕ → Result (List Entry) AnswerError
-areas_of_file table bytes = judged_areas table.form.quotes (entries_of_table table bytes)
+-- areas_of_file overlapping table bytes: the entries of the table in these bytes, or its error as a file of zones: that
+-- of `entries_of_table`, or `DuplicateInput` if two of its areas overlap and may not
+abbrev pub areas_of_file : Bool → Table → List ℕ → Result (List Entry) AnswerError
+areas_of_file overlapping table bytes = judged_areas overlapping table.form.quotes (entries_of_table table bytes)
 
--- ---- the area of a cell
+-- ---- the areas of a cell
 
--- name_or none names numbers: the name that has the first of these numbers, `none` if there is no number
-abbrev pub name_or : List ℕ → List (List ℕ) → List ℕ → List ℕ
-name_or none names [] = none
-name_or none names (n ∷ ns) = get_or names n []
+-- names_or none names numbers: the names that have these numbers, in order; `none` alone, if there is no number
+abbrev pub names_or : List ℕ → List (List ℕ) → List ℕ → List (List ℕ)
+names_or none names [] = none ∷ []
+names_or none names (n ∷ ns) = map (λ k. get_or names k []) (n ∷ ns)
 
--- area_name none names areas cell: the name of the area that a cell lies in, `none` if it lies in none
-abbrev pub area_name : List ℕ → List (List ℕ) → List (Address × ℕ) → Address → List ℕ
-area_name none names areas cell = name_or none names (areas_of areas cell)
+-- names_at none names areas cell: the names of the areas that a cell lies in, in their order; `none` alone, if it lies
+-- in none
+abbrev pub names_at : List ℕ → List (List ℕ) → List (Address × ℕ) → Address → List (List ℕ)
+names_at none names areas cell = names_or none names (areas_of areas cell)
 
--- name_line none names areas cell: the line with that name
-abbrev pub name_line : List ℕ → List (List ℕ) → List (Address × ℕ) → Address → List ℕ
-name_line none names areas cell = area_name none names areas cell ++ 10 ∷ []
+-- name_lines none names areas cell: a line with each of these names
+abbrev pub name_lines : List ℕ → List (List ℕ) → List (Address × ℕ) → Address → List ℕ
+name_lines none names areas cell = flat_map (λ name. name ++ 10 ∷ []) (names_at none names areas cell)
 
 -- name_answer none names areas index: the same of the cell with an index, or the error where there is no such cell
 abbrev pub name_answer : List ℕ → List (List ℕ) → List (Address × ℕ) → Option ℕ → Answer
-name_answer none names areas index = printed (name_line none names areas) (cell_given index)
+name_answer none names areas index = printed (name_lines none names areas) (cell_given index)
 
--- area_answer quotes none entries index: the line with the name of the area of a table in which the cell with an index
--- lies, as it is written there, or with `none` if it lies in none; or the error where there is no such cell
+-- area_answer quotes none entries index: a line with the name of each area of a table in which the cell with an index
+-- lies, as it is written there, in their order, or one with `none` if it lies in none; or the error where there is no
+-- such cell
 abbrev pub area_answer : Bool → List ℕ → List Entry → Option ℕ → Answer
 area_answer quotes none entries index = name_answer none (area_names quotes entries) (area_cells quotes entries) index

@@ -21,7 +21,8 @@ combined Left file cells = difference cells file
 abbrev pub combined_answer : Combination → List Address → List Address → Answer
 combined_answer kind file cells = written (cell_lines (combined kind file cells))
 
--- the cells of a file in the order in which they are used: those of a region as they are listed, zones so that one is looked up
+-- the cells of a file in the order in which they are used: those of a region as they are listed, zones so that one is
+-- looked up
 abbrev pub AreArranged : CellFile → List Address → List Address → Type 0
 AreArranged Region listed cells = cells ≡ listed
 AreArranged Zones listed cells = IsPermutation listed cells × IsZones cells

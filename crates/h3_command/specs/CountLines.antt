@@ -7,7 +7,8 @@ use Rattle.h3_command.specs.declared.count_lines.CountLines.{CountLines}
 abbrev pub at_resolution : ℕ → List Address → List ℕ → List (Option Address × ℕ)
 at_resolution r [] counts = []
 at_resolution r (z ∷ zones) [] = []
-at_resolution r (z ∷ zones) (n ∷ counts) = if resolution z == r then (Some z, n) ∷ at_resolution r zones counts else at_resolution r zones counts
+at_resolution r (z ∷ zones) (n ∷ counts) =
+    if resolution z == r then (Some z, n) ∷ at_resolution r zones counts else at_resolution r zones counts
 
 -- the zones of the so many finest resolutions, each with its count, coarsest first
 abbrev pub in_passes : ℕ → List Address → List ℕ → List (Option Address × ℕ)

@@ -8,10 +8,13 @@ abbrev pub CountsMore : List Address → List ℕ → ℕ → List Address → L
 CountsMore zones counts others cells counts' others' =
     (before : List Address) → AreCounts zones before counts others → AreCounts zones (before ++ cells) counts' others'
 
-pub counts_none : (zones : List Address) (counts : List ℕ) (others : ℕ) → CountsMore zones counts others [] counts others
-counts_none zones counts others before h = subst (λ cells. AreCounts zones cells counts others) (sym (append-nil before)) h
+pub counts_none : (zones : List Address) (counts : List ℕ) (others : ℕ)
+    → CountsMore zones counts others [] counts others
+counts_none zones counts others before h =
+    subst (λ cells. AreCounts zones cells counts others) (sym (append-nil before)) h
 
-pub counts_then : (zones zones' : List Address) (c1 c2 c3 : List ℕ) (n1 n2 n3 : ℕ) (xs ys : List Address) → zones' ≡ zones → CountsMore zones c1 n1 xs c2 n2 → CountsMore zones' c2 n2 ys c3 n3
+pub counts_then : (zones zones' : List Address) (c1 c2 c3 : List ℕ) (n1 n2 n3 : ℕ) (xs ys : List Address)
+    → zones' ≡ zones → CountsMore zones c1 n1 xs c2 n2 → CountsMore zones' c2 n2 ys c3 n3
     → CountsMore zones c1 n1 (xs ++ ys) c3 n3
 counts_then zones zones' c1 c2 c3 n1 n2 n3 xs ys same first second before h =
     let more = subst (λ z. CountsMore z c2 n2 ys c3 n3) same second in

@@ -38,11 +38,15 @@ no_index : answer (CellToParent None (pos 4)) [] [] ≡ refused Failed
 no_index = refl
 
 -- a list of two cells with a blank line between them, and one with a text that is no index behind a blank line
-two_cells : answer (ForEach (each.CellToParent (pos 4))) (codes "85283473fffffff" ++ 10 ∷ 32 ∷ 10 ∷ codes "8528340ffffffff") [] ≡ written (codes "8428347ffffffff" ++ 10 ∷ codes "8428341ffffffff" ++ 10 ∷ [])
+two_cells : answer (ForEach (each.CellToParent (pos 4)))
+    (codes "85283473fffffff" ++ 10 ∷ 32 ∷ 10 ∷ codes "8528340ffffffff") []
+    ≡ written (codes "8428347ffffffff" ++ 10 ∷ codes "8428341ffffffff" ++ 10 ∷ [])
 unfolding cell_in address_in number_of number_below parsed_index text_of
 two_cells = refl
 
-third_line : answer (ForEach each.IsValidCell) (codes "85283473fffffff" ++ 10 ∷ 10 ∷ codes "xyz" ++ 10 ∷ codes "85283473fffffff") [] ≡ record { output = codes "true" ++ 10 ∷ []; ending = Err (At 3 Failed) }
+third_line : answer (ForEach each.IsValidCell)
+    (codes "85283473fffffff" ++ 10 ∷ 10 ∷ codes "xyz" ++ 10 ∷ codes "85283473fffffff") []
+    ≡ record { output = codes "true" ++ 10 ∷ []; ending = Err (At 3 Failed) }
 unfolding cell_in address_in number_of parsed_index
 third_line = refl
 
@@ -50,12 +54,15 @@ no_cell : (answer (ForEach each.GetResolution) (codes "81087ffffffffff") []).end
 unfolding cell_in address_in number_of parsed_index
 no_cell = refl
 
--- a cell that is listed twice is united; behind a blank line a faulty one is reported with its number, and nothing is written
-united : answer UniteCells (codes "8029fffffffffff" ++ 10 ∷ codes "8029fffffffffff") [] ≡ written (codes "8029fffffffffff" ++ 10 ∷ [])
+-- a cell that is listed twice is united; behind a blank line a faulty one is reported with its number, and nothing is
+-- written
+united : answer UniteCells (codes "8029fffffffffff" ++ 10 ∷ codes "8029fffffffffff") []
+    ≡ written (codes "8029fffffffffff" ++ 10 ∷ [])
 unfolding cell_in address_in number_of parsed_index text_of compacted cells_up_to cells_of descendants paths
 united = refl
 
-not_united : answer UniteCells (codes "85283473fffffff" ++ 10 ∷ 10 ∷ codes "xyz" ++ 10 ∷ codes "85283473fffffff") [] ≡ record { output = []; ending = Err (At 3 Failed) }
+not_united : answer UniteCells (codes "85283473fffffff" ++ 10 ∷ 10 ∷ codes "xyz" ++ 10 ∷ codes "85283473fffffff") []
+    ≡ record { output = []; ending = Err (At 3 Failed) }
 unfolding cell_in address_in number_of parsed_index
 not_united = refl
 
@@ -67,7 +74,8 @@ line words = words ++ 10 ∷ []
 
 -- the cells before a step that is refused are written
 refused_on_the_way : answer_or_error (walked cell_line) (grid_disk_unsafe (test_link Plain) (base_cell 5) (pos 1))
-    ≡ before (line (codes "800bfffffffffff") ++ line (codes "8023fffffffffff") ++ line (codes "8021fffffffffff")) (refused Pentagon)
+    ≡ before (line (codes "800bfffffffffff") ++ line (codes "8023fffffffffff") ++ line (codes "8021fffffffffff"))
+    (refused Pentagon)
 unfolding disk moves ring_moves followed step_of found_sum candidates digit_lists number_of text_of
 refused_on_the_way = refl
 
@@ -75,7 +83,8 @@ refused_on_the_way = refl
 no_index_of_origin : request (GridDiskUnsafe None (negsuc 0)) ≡ plain (refused Failed)
 no_index_of_origin = refl
 
-no_table : (file : List ℕ) → table_fault (records_of file) ≡ Some (fault.Form 1) → answer (GridDiskUnsafe (Some 0x85283473fffffff) (negsuc 0)) [] file ≡ table_refused (fault.Form 1)
+no_table : (file : List ℕ) → table_fault (records_of file) ≡ Some (fault.Form 1)
+    → answer (GridDiskUnsafe (Some 0x85283473fffffff) (negsuc 0)) [] file ≡ table_refused (fault.Form 1)
 unfolding cell_in address_in number_of
 no_table file is = rw is refl
 

@@ -23,8 +23,12 @@ file_of Zones = file.Zones
 file_of Counts = file.Zones
 
 -- how the command ends, where the file has these cells
-abbrev pub EndsOver : FileQuery → Option RowOptions → List Address → SourceUse → Result (Unit {0}) RunError → SinkUse → Type 0
-EndsOver (Combined kind) rows cells input ending out = EndsNumberedList (list_form rows) (combined_answer kind cells) input ending out
-EndsOver Covered rows cells input ending out = EndsLines (rows_form rows (codes "isCovered")) (covered_answer cells) input ending out
-EndsOver Zones rows cells input ending out = EndsLines (rows_form rows (codes "zone")) (zone_answer cells) input ending out
+abbrev pub EndsOver : FileQuery → Option RowOptions → List Address → SourceUse → Result (Unit {0}) RunError → SinkUse
+    → Type 0
+EndsOver (Combined kind) rows cells input ending out =
+    EndsNumberedList (list_form rows) (combined_answer kind cells) input ending out
+EndsOver Covered rows cells input ending out =
+    EndsLines (rows_form rows (codes "isCovered")) (covered_answer cells) input ending out
+EndsOver Zones rows cells input ending out =
+    EndsLines (rows_form rows (codes "zone")) (zone_answer cells) input ending out
 EndsOver Counts rows cells input ending out = EndsNumberedList (list_form rows) (counts_answer cells) input ending out

@@ -64,8 +64,8 @@ abbrev pub file_cells : CellFile → Option Form → List ℕ → Result (List A
 file_cells file None bytes = judged_cells file (faulty_line bytes) (listed_cells bytes)
 file_cells file (Some form) bytes = judged_rows file (cells_of_table form bytes)
 
--- unless_refused about read: the answer about what is read of a file, or of rows; where these are refused, that error and
--- no output
+-- unless_refused about read: the answer about what is read of a file, or of rows; where these are refused, that error
+-- and no output
 abbrev pub unless_refused : {A : Type 0} → (A → Answer) → Result A AnswerError → Answer
 unless_refused about (Ok value) = about value
 unless_refused about (Err e) = record { output = []; ending = Err e }
@@ -86,8 +86,8 @@ left_answer file cells = written (cell_lines (difference cells file))
 abbrev pub is_covered_cell : List Address → Option ℕ → Result Bool H3Error
 is_covered_cell region index = for_value (λ c. Ok (is_covered region c)) (cell_given index)
 
--- covered_answer file index: the line that says whether the region of a file's cells covers the cell with an index, or the
--- error where there is no such cell
+-- covered_answer file index: the line that says whether the region of a file's cells covers the cell with an index, or
+-- the error where there is no such cell
 abbrev pub covered_answer : List Address → Option ℕ → Answer
 covered_answer file index = printed truth_line (is_covered_cell (compacted file) index)
 
@@ -95,8 +95,8 @@ covered_answer file index = printed truth_line (is_covered_cell (compacted file)
 abbrev pub cell_to_zone : List Address → Option ℕ → Result (Option Address) H3Error
 cell_to_zone zones index = for_value (λ c. Ok (zone_of zones c)) (cell_given index)
 
--- zone_answer zones index: the line of the zone of the cell with an index, `0` where it has none, or the error where there is
--- no such cell
+-- zone_answer zones index: the line of the zone of the cell with an index, `0` where it has none, or the error where
+-- there is no such cell
 abbrev pub zone_answer : List Address → Option ℕ → Answer
 zone_answer zones index = printed zone_line (cell_to_zone zones index)
 
@@ -106,18 +106,19 @@ zone_answer zones index = printed zone_line (cell_to_zone zones index)
 abbrev pub zone_counts : List Address → List Address → List (Option Address × ℕ)
 zone_counts zones cells = map (λ zone. (Some zone, count_in zone cells)) zones
 
--- counted_lines zones cells: each zone, in ascending order, with how many places of the list have it as their zone, and then
--- no zone with how many have none
+-- counted_lines zones cells: each zone, in ascending order, with how many places of the list have it as their zone, and
+-- then no zone with how many have none
 abbrev pub counted_lines : List Address → List Address → List (Option Address × ℕ)
 counted_lines zones cells = zone_counts (by_number zones) cells ++ (None, count_outside zones cells) ∷ []
 
--- counts_answer zones cells: a line for each zone, in ascending order, with how many places of the list have it as their
--- zone, and then one with how many have none
+-- counts_answer zones cells: a line for each zone, in ascending order, with how many places of the list have it as
+-- their zone, and then one with how many have none
 abbrev pub counts_answer : List Address → List Address → Answer
 counts_answer zones cells = written (flat_map count_line (counted_lines zones cells))
 
--- CountsPrintedAddUp: the numbers on the lines of the counts of zones of which no two overlap add up to the number of cells
--- that are counted
+-- CountsPrintedAddUp: the numbers on the lines of the counts of zones of which no two overlap add up to the number of
+-- cells that are counted
 abbrev pub CountsPrintedAddUp : Type 0
 CountsPrintedAddUp =
-    (zones cells : List Address) → All IsCell zones → IsApart zones → sum (map (λ line. line.1) (counted_lines zones cells)) ≡ length cells
+    (zones cells : List Address) → All IsCell zones → IsApart zones
+    → sum (map (λ line. line.1) (counted_lines zones cells)) ≡ length cells

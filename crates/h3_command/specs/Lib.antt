@@ -2,9 +2,13 @@ pub mod Answer
 pub mod AreaCountExamples
 pub mod AreaCounts
 pub mod AreaExamples
+pub mod AreaSums
 pub mod AreaTable
 pub mod AreaTally
 pub mod Areas
+pub mod By
+pub mod ByExamples
+pub mod ByValue
 pub mod Combination
 pub mod CountLines
 pub mod Counts
@@ -24,6 +28,12 @@ pub mod Required
 pub mod Rows
 pub mod Run
 pub mod Sizes
+pub mod SumAnswers
+pub mod SumEntries
+pub mod SumExamples
+pub mod SumRows
+pub mod SumTables
+pub mod SumTally
 pub mod TableLines
 pub mod TableLists
 pub mod TableQuery

@@ -1,5 +1,5 @@
--- Cells of a list that are answered as a whole: the list is bare or has rows, and gives its cells or is refused. Private
--- contracts and proofs alone cite this file.
+-- Cells of a list that are answered as a whole: the list is bare or has rows, and gives its cells or is refused.
+-- Private contracts and proofs alone cite this file.
 use Rattle.std.specs.Prelude.{◌^◌, List, Option, None, Some}
 use Rattle.h3_index.specs.Cell.{Address}
 use Rattle.h3_lines.specs.ListRead.{ListRead, ListRefused, RefusesByError, RefusesByLine}

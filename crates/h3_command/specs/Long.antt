@@ -39,7 +39,8 @@ child_lines_left (Below groups) = map (λ parent. Group parent) (parents_left gr
 
 -- those below a cell at a resolution
 abbrev pub items_below : ℕ → Address → List ChildItem
-items_below r cell = if nat_eq r (resolution cell) then One cell ∷ [] else map (λ parent. Group parent) (descendants cell (r - 1))
+items_below r cell =
+    if nat_eq r (resolution cell) then One cell ∷ [] else map (λ parent. Group parent) (descendants cell (r - 1))
 
 -- ---- walks
 

@@ -1,6 +1,6 @@
--- Answers of any number of lines to the index of a line: the children of its cell, or its disk or ring over the links of a
--- base cell table. An answer is all of its lines, or an error and none of them: a walk that is refused on its way has its
--- error alone here.
+-- Answers of any number of lines to the index of a line: the children of its cell, or its disk or ring over the links
+-- of a base cell table. An answer is all of its lines, or an error and none of them: a walk that is refused on its way
+-- has its error alone here.
 use Rattle.std.specs.Prelude.{ℕ, ℤ, List, Option, None, Some, Result, Ok, Err}
 use Rattle.std.specs.List.{flat_map}
 use Rattle.h3_index.specs.declared.error.H3Error.{H3Error}
@@ -34,7 +34,8 @@ ring_for link k index = printed cell_lines (for_value (λ c. whole_walk (grid_ri
 -- disk_distances_for between link k index: a line for each cell of its disk with its ring, and a byte between them
 abbrev pub disk_distances_for : ℕ → Links → ℤ → Option ℕ → Answer
 disk_distances_for between link k index =
-    printed (flat_map (ring_line_by between)) (for_value (λ c. whole_walk (grid_disk_distances_unsafe link c k)) (cell_given index))
+    printed (flat_map (ring_line_by between))
+    (for_value (λ c. whole_walk (grid_disk_distances_unsafe link c k)) (cell_given index))
 
 -- between_parts rows: the byte between a cell and its ring: a space on a bare line, and beside a row its separator
 abbrev pub between_parts : Option RowOptions → ℕ

@@ -15,7 +15,8 @@ use Rattle.h3_command.specs.LongAnswers.{children_for, disk_for, whole_walk}
 
 -- the six children of a pentagon, and none above its resolution
 pentagon : children_for (pos 1) (Some 0x8009fffffffffff)
-    ≡ written (codes "81083ffffffffff" ++ 10 ∷ codes "8108bffffffffff" ++ 10 ∷ codes "8108fffffffffff" ++ 10 ∷ codes "81093ffffffffff" ++ 10 ∷ codes "81097ffffffffff" ++ 10 ∷ codes "8109bffffffffff" ++ 10 ∷ [])
+    ≡ written (codes "81083ffffffffff" ++ 10 ∷ codes "8108bffffffffff" ++ 10 ∷ codes "8108fffffffffff" ++ 10
+    ∷ codes "81093ffffffffff" ++ 10 ∷ codes "81097ffffffffff" ++ 10 ∷ codes "8109bffffffffff" ++ 10 ∷ [])
 unfolding cell_in address_in number_of number_below descendants paths text_of
 pentagon = refl
 

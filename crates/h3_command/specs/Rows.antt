@@ -1,5 +1,5 @@
--- Lists, bare or of rows: answered line by line, where each row is written with the answer to its own cell beside it, or by
--- their cells as a whole.
+-- Lists, bare or of rows: answered line by line, where each row is written with the answer to its own cell beside it,
+-- or by their cells as a whole.
 use Rattle.std.specs.Prelude.{ℕ, Bool, false, List, [], Option, None, Some, codes, option_map, unwrap_or}
 use Rattle.h3_lines.specs.Answer.{Answer}
 use Rattle.h3_lines.specs.EachLine.{list_answer}
@@ -11,7 +11,8 @@ use Rattle.h3_rows.specs.RowForm.{form_of, pair_form_of, text_form_of}
 use Rattle.h3_rows.specs.RowsAnswer.{Form}
 use Rattle.h3_rows.specs.RowsAnswer.{list_answer as row_answers}
 
--- rows_form rows name: the form of a list's rows, if it has rows, where the new column has this name unless another is given
+-- rows_form rows name: the form of a list's rows, if it has rows, where the new column has this name unless another is
+-- given
 abbrev pub rows_form : Option RowOptions → List ℕ → Option Form
 rows_form rows name = option_map (λ options. form_of options name) rows
 
@@ -19,7 +20,8 @@ rows_form rows name = option_map (λ options. form_of options name) rows
 abbrev pub pair_form : Option RowOptions → Option Form
 pair_form rows = option_map pair_form_of rows
 
--- text_form rows quotes name: the same where an answer is a text of any length; `quotes` says whether quotes count in it
+-- text_form rows quotes name: the same where an answer is a text of any length; `quotes` says whether quotes count in
+-- it
 abbrev pub text_form : Option RowOptions → Bool → List ℕ → Option Form
 text_form rows quotes name = option_map (λ options. text_form_of quotes options name) rows
 
@@ -27,8 +29,8 @@ text_form rows quotes name = option_map (λ options. text_form_of quotes options
 abbrev pub title_or_zone : List Entry → List ℕ
 title_or_zone entries = unwrap_or (title_of entries) (codes "zone")
 
--- area_form rows quotes entries: the same where an answer is the name of an area of a table: the new column's name is that of
--- `--as`, else that of the column of names in the table's header, else `zone`
+-- area_form rows quotes entries: the same where an answer is the name of an area of a table: the new column's name is
+-- that of `--as`, else that of the column of names in the table's header, else `zone`
 abbrev pub area_form : Option RowOptions → Bool → List Entry → Option Form
 area_form rows quotes entries = text_form rows quotes (title_or_zone entries)
 

@@ -1,5 +1,5 @@
 -- What a run does with its streams.
-use Rattle.std.specs.Prelude.{◌≡◌, ⊤, ℕ, ◌≤◌, ◌^◌, ◌⊎◌, true, false, List, ◌++◌, length, Option, None, Some, Result, Ok, Err, IsOk, IsTrue}
+use Rattle.std.specs.Prelude.{◌≡◌, ⊤, ℕ, ◌≤◌, ◌^◌, ◌⊎◌, Bool, true, false, List, ◌++◌, length, Option, None, Some, Result, Ok, Err, IsOk, IsTrue}
 use Rattle.h3_index.specs.Cell.{Address}
 use Rattle.h3_streams.specs.Stream.{HasLeft}
 use Rattle.h3_index.specs.declared.error.H3Error.{H3Error}
@@ -22,13 +22,13 @@ use Rattle.h3_lines.specs.Reads.{IsListWithinReads, IsReadToEnd, IsWithinReads, 
 use Rattle.h3_lines.specs.RunError.{ending_of}
 use Rattle.h3_rows.specs.Each.{EndsRows}
 use Rattle.h3_rows.specs.Cells.{AllRowsRead, RefusesRows, RefusesRowsInPage, RowsReadTo, begun_cells}
-use Rattle.h3_rows.specs.Named.{Entry, NamedReadTo, RefusesNamedInPage, begun_named}
+use Rattle.h3_rows.specs.Named.{AllNamedRead, Entry, NamedReadTo, RefusesNamed, RefusesNamedInPage, begun_named}
 use Rattle.h3_rows.specs.Named.{Table as NamedTable}
 use Rattle.h3_rows.specs.RowsAnswer.{Form, begun_answer, rows_answer}
 use Rattle.h3_command.specs.Areas.{areas_of_file, entries_of_table}
 use Rattle.h3_command.specs.Files.{cells_of_table, file_cells}
 use Rattle.h3_command.specs.Answer.{Request, about_list, about_numbered_list, about_table, answer_to, reads_list_after, reads_table, takes_memory}
-use Rattle.h3_command.specs.Answer.Request.{plain, of_areas_and_lines, of_areas_and_list, of_file_and_lines, of_file_and_list, of_lines, of_list, of_numbered_list, of_table, of_table_and_lines}
+use Rattle.h3_command.specs.Answer.Request.{plain, of_areas_and_lines, of_areas_and_list, of_areas_and_rows, of_file_and_lines, of_file_and_list, of_file_and_rows, of_lines, of_list, of_numbered_list, of_rows, of_table, of_table_and_lines}
 
 -- ---- streams
 
@@ -75,13 +75,16 @@ IsReadSoFar (Ok cells) source ending = IsReadToEnd source
 -- is written, and 2^40 reads can find the end of the list or a faulty line
 abbrev pub WritesOfList : (List Address → Answer) → SourceUse → Result (Unit {0}) RunError → SinkUse → Type 0
 WritesOfList about input ending out =
-    (list : List ℕ) × HasLeft input.left list × WritesReading (about_list None about list) list (IsListWithinReads (2 ^ 40) 65536 list) input ending out
+    (list : List ℕ) × HasLeft input.left list
+    × WritesReading (about_list None about list) list (IsListWithinReads (2 ^ 40) 65536 list) input ending out
     × IsReadSoFar (listed_cells list) input ending
 
 -- WritesOfNumberedList about input ending out: the same, where the error of a faulty line is reported with its number
 abbrev pub WritesOfNumberedList : (List Address → Answer) → SourceUse → Result (Unit {0}) RunError → SinkUse → Type 0
 WritesOfNumberedList about input ending out =
-    (list : List ℕ) × HasLeft input.left list × WritesReading (about_numbered_list None about list) list (IsListWithinReads (2 ^ 40) 65536 list) input ending out
+    (list : List ℕ) × HasLeft input.left list
+    × WritesReading (about_numbered_list None about list) list
+    (IsListWithinReads (2 ^ 40) 65536 list) input ending out
     × IsReadSoFar (listed_cells list) input ending
 
 -- GivesRows form input cells: the rows of a list are read to their end, no read fails, and these are their cells
@@ -97,19 +100,22 @@ RefusesInput form input (Err e) = RefusesRows form input.left input.left_after i
 abbrev pub WritesUnlessMemory : Answer → Result (Unit {0}) RunError → SinkUse → Type 0
 WritesUnlessMemory a ending out = Writes a ending out ⊎ ((ending ≡ Err (Fault Memory)) × IsLeft out)
 
--- WritesOfRows form about input ending out: the rows of a list are read, and the answer about their cells is written, or there
--- is no memory for it; or they are refused, and nothing is written
+-- WritesOfRows form about input ending out: the rows of a list are read, and the answer about their cells is written,
+-- or there is no memory for it; or they are refused, and nothing is written
 abbrev pub WritesOfRows : Form → (List Address → Answer) → SourceUse → Result (Unit {0}) RunError → SinkUse → Type 0
 WritesOfRows form about input ending out =
-    ((cells : List Address) × GivesRows form input cells × WritesUnlessMemory (about cells) ending out) ⊎ (RefusesInput form input ending × IsLeft out)
+    ((cells : List Address) × GivesRows form input cells × WritesUnlessMemory (about cells) ending out)
+    ⊎ (RefusesInput form input ending × IsLeft out)
 
--- EndsList form about input ending out: how a command ends that answers about the cells of a list, bare or of rows in a form
+-- EndsList form about input ending out: how a command ends that answers about the cells of a list, bare or of rows in a
+-- form
 abbrev pub EndsList : Option Form → (List Address → Answer) → SourceUse → Result (Unit {0}) RunError → SinkUse → Type 0
 EndsList None about input ending out = WritesOfList about input ending out
 EndsList (Some form) about input ending out = WritesOfRows form about input ending out
 
 -- EndsNumberedList form about input ending out: the same, where the error of a faulty line is reported with its number
-abbrev pub EndsNumberedList : Option Form → (List Address → Answer) → SourceUse → Result (Unit {0}) RunError → SinkUse → Type 0
+abbrev pub EndsNumberedList : Option Form → (List Address → Answer) → SourceUse → Result (Unit {0}) RunError → SinkUse
+    → Type 0
 EndsNumberedList None about input ending out = WritesOfNumberedList about input ending out
 EndsNumberedList (Some form) about input ending out = WritesOfRows form about input ending out
 
@@ -124,14 +130,17 @@ IsReadWhole source ending = IsReadToEnd source
 -- the same of a table, of which 2^40 reads can find the end, and the answer about its links; a table is read to its end
 abbrev pub WritesOfTable : (Links → Answer) → SourceUse → Result (Unit {0}) RunError → SinkUse → Type 0
 WritesOfTable about table ending out =
-    (file : List ℕ) × HasLeft table.left file × WritesReading (about_table about file) file (IsWithinReads (2 ^ 40) 4096 file) table ending out
+    (file : List ℕ) × HasLeft table.left file
+    × WritesReading (about_table about file) file (IsWithinReads (2 ^ 40) 4096 file) table ending out
     × IsReadWhole table ending
 
 -- EndsLines form about input ending out: how the answering of a list ends, line by line, or row by row in a form
 abbrev pub EndsLines : Option Form → (Option ℕ → Answer) → SourceUse → Result (Unit {0}) RunError → SinkUse → Type 0
-EndsLines None about input ending out = EndsEach about input.left input.left_after input.had_failed input.has_failed ending out
+EndsLines None about input ending out =
+    EndsEach about input.left input.left_after input.had_failed input.has_failed ending out
 EndsLines (Some form) about input ending out =
-    EndsRows form.quotes (rows_answer form about) (begun_answer form about) input.left input.left_after input.had_failed input.has_failed ending out
+    EndsRows form.quotes (rows_answer form about)
+    (begun_answer form about) input.left input.left_after input.had_failed input.has_failed ending out
 
 -- IsTableReadTo form n bytes file: a part of these bytes of a table of cells is read, and then at most n bytes more;
 -- the rows that end in the part have no error, and the one that does not has at most 1,114,111 bytes in it
@@ -204,32 +213,35 @@ pub record GivesTable (bytes : List ℕ) (table : SourceUse) (link : Links) : Ty
   pub sound : NoReadFails table
   pub whole : IsReadToEnd table
 
--- RefusesTableFile bytes table ending: the bytes of a table are read to their end, and refused for their first fault; or there
--- is no memory, or a read fails
+-- RefusesTableFile bytes table ending: the bytes of a table are read to their end, and refused for their first fault;
+-- or there is no memory, or a read fails
 abbrev pub RefusesTableFile : List ℕ → SourceUse → Result (Unit {0}) RunError → Type 0
 RefusesTableFile bytes table (Ok u) = ⊥
 RefusesTableFile bytes table (Err (Fault Memory)) = NoReadFails table
 RefusesTableFile bytes table (Err (Fault Read)) = ReadFails table bytes
 RefusesTableFile bytes table (Err (Fault Write)) = ⊥
 RefusesTableFile bytes table (Err (Error e)) =
-    (fault : TableError) × (table_fault (records_of bytes) ≡ Some fault) × (e ≡ Table fault) × IsWithinReads (2 ^ 40) 4096 bytes × NoReadFails table × IsReadToEnd table
+    (fault : TableError) × (table_fault (records_of bytes) ≡ Some fault) × (e ≡ Table fault)
+    × IsWithinReads (2 ^ 40) 4096 bytes × NoReadFails table × IsReadToEnd table
 
--- EndsOverTable then_ends input table ending out: there are bytes of a table, those left where known, which are read first:
--- `then_ends` says of their links what follows; or they are refused, and standard input is left alone and nothing is written
+-- EndsOverTable then_ends input table ending out: there are bytes of a table, those left where known, which are read
+-- first: `then_ends` says of their links what follows; or they are refused, and standard input is left alone and
+-- nothing is written
 abbrev pub EndsOverTable : (Links → Type 0) → SourceUse → SourceUse → Result (Unit {0}) RunError → SinkUse → Type 0
 EndsOverTable then_ends input table ending out =
     (bytes : List ℕ) × HasLeft table.left bytes
-    × (((link : Links) × GivesTable bytes table link × then_ends link) ⊎ (RefusesTableFile bytes table ending × IsLeftAlone input × IsLeft out))
+    × (((link : Links) × GivesTable bytes table link × then_ends link)
+    ⊎ (RefusesTableFile bytes table ending × IsLeftAlone input × IsLeft out))
 
--- IsNamedReadTo table n bytes file: a part of these bytes of a table of zones with names is read, and then at most n bytes
--- more; the rows that end in the part have no error, and the one that does not has at most 1,114,111 bytes in it
+-- IsNamedReadTo table n bytes file: a part of these bytes of a table of zones with names is read, and then at most n
+-- bytes more; the rows that end in the part have no error, and the one that does not has at most 1,114,111 bytes in it
 pub record IsNamedReadTo (table : NamedTable) (most : ℕ) (bytes : List ℕ) (file : SourceUse) : Type 0 where
   pub stop : NamedReadTo table most file.left file.left_after
   pub of : stop.part ++ stop.last ++ stop.rest ≡ bytes
 
--- IsNamedReadSoFar table entries bytes file: how far a table of zones with names is read that is refused: to its end if none
--- of its rows has an error, since it is then refused as a whole, or its header did not come; and else at most a page
--- further than rows that have no error, in reads that may be made
+-- IsNamedReadSoFar table entries bytes file: how far a table of zones with names is read that is refused: to its end if
+-- none of its rows has an error, since it is then refused as a whole, or its header did not come; and else at most a
+-- page further than rows that have no error, in reads that may be made
 abbrev pub IsNamedReadSoFar : NamedTable → Result (List Entry) AnswerError → List ℕ → SourceUse → Type 0
 IsNamedReadSoFar table (Ok entries) bytes file = IsFileReadWhole bytes file
 IsNamedReadSoFar table (Err e) bytes file =
@@ -237,35 +249,56 @@ IsNamedReadSoFar table (Err e) bytes file =
     ⊎ ((refused : RefusesNamedInPage table e file.left file.left_after)
     × (refused.stop.part ++ refused.stop.last ++ refused.stop.rest ≡ bytes))
 
--- RefusesAreas table bytes file ending: the bytes of a table of zones with names are refused, and read as `IsNamedReadSoFar`
--- says; or there is no memory, and they are read to their end, if none of the rows has an error, or as `IsNamedReadTo` says;
--- or a read fails, and they are read no further than rows without an error
-abbrev pub RefusesAreas : NamedTable → List ℕ → SourceUse → Result (Unit {0}) RunError → Type 0
-RefusesAreas table bytes file (Ok u) = ⊥
-RefusesAreas table bytes file (Err (Fault Memory)) =
-    NoReadFails file × ((IsFileReadWhole bytes file × IsOk (entries_of_table table bytes)) ⊎ IsNamedReadTo table 65536 bytes file)
-RefusesAreas table bytes file (Err (Fault Read)) = ReadFails file bytes × IsNamedReadTo table 0 bytes file
-RefusesAreas table bytes file (Err (Fault Write)) = ⊥
-RefusesAreas table bytes file (Err (Error e)) =
-    (areas_of_file table bytes ≡ Err e) × NoReadFails file × IsNamedReadSoFar table (entries_of_table table bytes) bytes file
+-- RefusesAreas overlapping table bytes file ending: the bytes of a table of zones with names are refused, and read as
+-- `IsNamedReadSoFar` says; or there is no memory, and they are read to their end, if none of the rows has an error, or
+-- as `IsNamedReadTo` says; or a read fails, and they are read no further than rows without an error
+abbrev pub RefusesAreas : Bool → NamedTable → List ℕ → SourceUse → Result (Unit {0}) RunError → Type 0
+RefusesAreas overlapping table bytes file (Ok u) = ⊥
+RefusesAreas overlapping table bytes file (Err (Fault Memory)) =
+    NoReadFails file
+    × ((IsFileReadWhole bytes file × IsOk (entries_of_table table bytes)) ⊎ IsNamedReadTo table 65536 bytes file)
+RefusesAreas overlapping table bytes file (Err (Fault Read)) = ReadFails file bytes × IsNamedReadTo table 0 bytes file
+RefusesAreas overlapping table bytes file (Err (Fault Write)) = ⊥
+RefusesAreas overlapping table bytes file (Err (Error e)) =
+    (areas_of_file overlapping table bytes ≡ Err e) × NoReadFails file
+    × IsNamedReadSoFar table (entries_of_table table bytes) bytes file
 
--- GivesAreas table bytes file entries: the bytes of a table of zones with names are read to their end, have these cells with
--- their names, and no two of its areas overlap
-pub record GivesAreas (table : NamedTable) (bytes : List ℕ) (file : SourceUse) (entries : List Entry) : Type 0 where
-  pub is : areas_of_file table bytes ≡ Ok entries
+-- GivesAreas overlapping table bytes file entries: the bytes of a table of zones with names are read to their end, have
+-- these cells with their names, and no two of its areas overlap, or they may
+pub record GivesAreas (overlapping : Bool) (table : NamedTable) (bytes : List ℕ) (file : SourceUse) (entries : List Entry) : Type 0 where
+  pub is : areas_of_file overlapping table bytes ≡ Ok entries
   pub within : IsWithinReads (2 ^ 40) 65536 bytes
   pub sound : NoReadFails file
   pub whole : IsReadToEnd file
 
--- EndsOverAreas table then_ends input file ending out: there are bytes of a table of zones with names, those left where
--- known, which are read first: `then_ends` says of its cells with their names what follows; or they are refused, and
--- standard input is left alone and nothing is written
-abbrev pub EndsOverAreas : NamedTable → (List Entry → Type 0) → SourceUse → SourceUse → Result (Unit {0}) RunError → SinkUse
-    → Type 0
-EndsOverAreas table then_ends input file ending out =
+-- EndsOverAreas overlapping table then_ends input file ending out: there are bytes of a table of zones with names,
+-- those left where known, which are read first: `then_ends` says of its cells with their names what follows; or they
+-- are refused, and standard input is left alone and nothing is written
+abbrev pub EndsOverAreas : Bool → NamedTable → (List Entry → Type 0) → SourceUse → SourceUse
+    → Result (Unit {0}) RunError
+    → SinkUse → Type 0
+EndsOverAreas overlapping table then_ends input file ending out =
     (bytes : List ℕ) × HasLeft file.left bytes
-    × (((entries : List Entry) × GivesAreas table bytes file entries × then_ends entries)
-    ⊎ (RefusesAreas table bytes file ending × IsLeftAlone input × IsLeft out))
+    × (((entries : List Entry) × GivesAreas overlapping table bytes file entries × then_ends entries)
+    ⊎ (RefusesAreas overlapping table bytes file ending × IsLeftAlone input × IsLeft out))
+
+-- GivesEntries table input entries: the rows of a list are read to their end, no read fails, and these are their
+-- entries: each a cell and its second field
+abbrev pub GivesEntries : NamedTable → SourceUse → List Entry → Type 0
+GivesEntries table input entries = NoReadFails input × AllNamedRead table (Ok entries) input.left input.left_after
+
+-- RefusesEntries table input ending: the reading of the entries of rows is refused, as `RefusesNamed` says
+abbrev pub RefusesEntries : NamedTable → SourceUse → Result (Unit {0}) RunError → Type 0
+RefusesEntries table input (Ok u) = ⊥
+RefusesEntries table input (Err e) =
+    RefusesNamed table input.left input.left_after input.had_failed input.has_failed e
+
+-- EndsEntries table about input ending out: the rows of a list are read, and the answer about their entries is written,
+-- or there is no memory for it; or they are refused, and nothing is written
+abbrev pub EndsEntries : NamedTable → (List Entry → Answer) → SourceUse → Result (Unit {0}) RunError → SinkUse → Type 0
+EndsEntries table about input ending out =
+    ((entries : List Entry) × GivesEntries table input entries × WritesUnlessMemory (about entries) ending out)
+    ⊎ (RefusesEntries table input ending × IsLeft out)
 
 -- Ends r input table ending out: how a run may end, by its request
 abbrev pub Ends : Request → SourceUse → SourceUse → Result (Unit {0}) RunError → SinkUse → Type 0
@@ -280,10 +313,18 @@ Ends (of_file_and_lines f rows form about) input file ending out =
     EndsOverFile f rows (λ cells. EndsLines form (about cells) input ending out) input file ending out
 Ends (of_table_and_lines form about) input table ending out =
     EndsOverTable (λ link. EndsLines form (about link) input ending out) input table ending out
-Ends (of_areas_and_lines table form about) input file ending out =
-    EndsOverAreas table (λ entries. EndsLines (form entries) (about entries) input ending out) input file ending out
-Ends (of_areas_and_list table form about) input file ending out =
-    EndsOverAreas table (λ entries. EndsNumberedList form (about entries) input ending out) input file ending out
+Ends (of_areas_and_lines overlapping table form about) input file ending out =
+    EndsOverAreas overlapping table
+    (λ entries. EndsLines (form entries) (about entries) input ending out) input file ending out
+Ends (of_areas_and_list overlapping table form about) input file ending out =
+    EndsOverAreas overlapping table
+    (λ entries. EndsNumberedList form (about entries) input ending out) input file ending out
+Ends (of_rows table about) input file ending out = EndsEntries table about input ending out
+Ends (of_file_and_rows f rows table about) input file ending out =
+    EndsOverFile f rows (λ cells. EndsEntries table (about cells) input ending out) input file ending out
+Ends (of_areas_and_rows overlapping areas table about) input file ending out =
+    EndsOverAreas overlapping areas
+    (λ entries. EndsEntries table (about entries) input ending out) input file ending out
 
 -- ---- where nothing fails
 
@@ -303,8 +344,8 @@ pub record RunsOutOfMemory (status : ℕ) (s : Streams) : Type 0 where
   pub output : IsLeft s.out
   pub report : Reports (Err (Fault Memory)) status s.err
 
--- Answers r status s: there are bytes of the list and of the table, or of a file of cells in its place, those left where known,
--- and where nothing fails the answer to them is given, or out of memory where memory is taken
+-- Answers r status s: there are bytes of the list and of the table, or of a file of cells in its place, those left
+-- where known, and where nothing fails the answer to them is given, or out of memory where memory is taken
 pub record Answers (r : Request) (status : ℕ) (s : Streams) : Type 0 where
   pub list : List ℕ
   pub file : List ℕ

@@ -1,5 +1,5 @@
--- The numbers of descendants of cells that are added up one after another. The implementation that states these laws and
--- proofs alone cite this file.
+-- The numbers of descendants of cells that are added up one after another. The implementation that states these laws
+-- and proofs alone cite this file.
 use Rattle.std.proofs.Common.{◌≡◌, ℕ, Bool, false, List, [], ◌++◌, length, append-nil, append_assoc, subst, sym}
 use Rattle.std.specs.Prelude.{nat_lt}
 use Rattle.std.specs.List.{list_any}
@@ -19,7 +19,8 @@ SizesMore r finer total cells finer' total' =
 pub sizes_none : (r : ℕ) (finer : Bool) (total : ℕ) → SizesMore r finer total [] finer total
 sizes_none r finer total before h = subst (λ cells. IsSizeOf r cells finer total) (sym (append-nil before)) h
 
-pub sizes_then : (r r' : ℕ) (f1 f2 f3 : Bool) (n1 n2 n3 : ℕ) (xs ys : List Address) → r' ≡ r → SizesMore r f1 n1 xs f2 n2 → SizesMore r' f2 n2 ys f3 n3
+pub sizes_then : (r r' : ℕ) (f1 f2 f3 : Bool) (n1 n2 n3 : ℕ) (xs ys : List Address) → r' ≡ r
+    → SizesMore r f1 n1 xs f2 n2 → SizesMore r' f2 n2 ys f3 n3
     → SizesMore r f1 n1 (xs ++ ys) f3 n3
 sizes_then r r' f1 f2 f3 n1 n2 n3 xs ys same first second before h =
     let more = subst (λ s. SizesMore s f2 n2 ys f3 n3) same second in

@@ -1,5 +1,5 @@
--- The answers to the lines of a list over the links of a base cell table, and the form of its rows. Private contracts and
--- proofs alone cite this file.
+-- The answers to the lines of a list over the links of a base cell table, and the form of its rows. Private contracts
+-- and proofs alone cite this file.
 use Rattle.std.specs.Prelude.{ℕ, Option, codes}
 use Rattle.h3_table.specs.Links.{Links}
 use Rattle.h3_lines.specs.Answer.{Answer}

@@ -12,7 +12,7 @@ use Rattle.h3_command.specs.Required.{edge_given}
 abbrev pub destination_of : Links → Option ℕ → Result Address H3Error
 destination_of link index = for_value (get_directed_edge_destination link) (edge_given index)
 
--- destination_answer link index: the line of the cell to which the edge with an index leads, or the error where there is no
--- such edge, or where its step is refused
+-- destination_answer link index: the line of the cell to which the edge with an index leads, or the error where there
+-- is no such edge, or where its step is refused
 abbrev pub destination_answer : Links → Option ℕ → Answer
 destination_answer link index = printed cell_line (destination_of link index)

@@ -12,5 +12,6 @@ table_answer (GridDisk c k) link = answer_or_error (walked cell_line) (grid_disk
 table_answer (GridDiskDistances c k) link = answer_or_error (walked ring_line) (grid_disk_distances_unsafe link c k)
 table_answer (GridRing c k) link = answer_or_error (walked cell_line) (grid_ring_unsafe link c k)
 table_answer (Neighbors c to) link = printed truth_line (are_neighbor_cells link (c, to))
-table_answer (EdgeBetween origin destination) link = printed edge_line (cells_to_directed_edge link (origin, destination))
+table_answer (EdgeBetween origin destination) link =
+    printed edge_line (cells_to_directed_edge link (origin, destination))
 table_answer (EdgeDestination edge) link = printed cell_line (get_directed_edge_destination link edge)

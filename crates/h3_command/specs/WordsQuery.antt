@@ -13,4 +13,5 @@ words_answer (NumCells res) = printed number_line (get_num_cells res)
 words_answer Res0Cells = written (cell_lines get_res0_cells)
 words_answer (Pentagons res) = printed cell_lines (get_pentagons res)
 words_answer (Children cell res) = printed cell_lines (for_value (λ h. cell_to_children h res) (index_given cell))
-words_answer (ChildAt position cell res) = printed cell_line (for_value (λ h. child_pos_to_cell position h res) (index_given cell))
+words_answer (ChildAt position cell res) =
+    printed cell_line (for_value (λ h. child_pos_to_cell position h res) (index_given cell))

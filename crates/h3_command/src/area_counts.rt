@@ -1,7 +1,7 @@
 //! How many cells of a list lie in each of the areas of a table of zones with names.
 
 ghost use Rattle.std.proofs.Common.{◌∙◌, refl};
-ghost use Rattle.std.specs.Prelude.{◌≡◌, ◌+◌, ◌<◌, ◌≤◌, ◌++◌, ◌∷◌, [], ℕ, All, Bool, List, IfOk, OnErr, length, map, sum, take, None, Some, option_map, string_bytes, if◌then◌else◌};
+ghost use Rattle.std.specs.Prelude.{◌≡◌, ◌+◌, ◌<◌, ◌≤◌, ◌++◌, ◌∷◌, [], ℕ, false, All, Bool, List, IfOk, OnErr, length, map, sum, take, None, Some, option_map, string_bytes, if◌then◌else◌};
 ghost use Rattle.std.specs.List.{flat_map};
 ghost use Rattle.h3_index.specs.Cell.{Address};
 ghost use Rattle.h3_regions.specs.Refusals.{areas_refusal};
@@ -10,7 +10,7 @@ ghost use Rattle.h3_lines.specs.Answering.{FailsPush, Moves};
 ghost use Rattle.h3_lines.specs.Reads.{source_use};
 ghost use Rattle.h3_lines.specs.Write.{Writes, sink_use};
 ghost use Rattle.h3_rows.specs.Areas.{area_cells, names_in};
-ghost use Rattle.h3_rows.specs.Named.{Entry, table_of};
+ghost use Rattle.h3_rows.specs.Named.{Entry, names_table};
 ghost use Rattle.h3_command.specs.AreaCounts.{area_counts, area_counts_answer, count_row, counts_table, has_header, header_row};
 ghost use Rattle.h3_command.specs.AreaTable.{EndsJudged, HoldsAreas};
 ghost use Rattle.h3_command.specs.AreaTally.{AreaCountsMore, area_counts_none, area_counts_then, named_counts};
@@ -81,7 +81,7 @@ impl<'a> CellJob for AreaTally<'a> {
 }
 
 /// Puts bytes and one more after them into a block from the byte `at` on, and returns where they end.
-fn hold(block: &mut [u8; BLOCK], at: usize, bytes: &[u8], last: u8) -> usize
+pub(crate) fn hold(block: &mut [u8; BLOCK], at: usize, bytes: &[u8], last: u8) -> usize
     requires { at + length bytes.now + 1 ≤ BLOCK }
     ensures end { result ≡ at + length bytes.now + 1 }
     ensures held { take result block.new ≡ take at block.old ++ (bytes.now ++ last ∷ []) }
@@ -95,7 +95,7 @@ fn hold(block: &mut [u8; BLOCK], at: usize, bytes: &[u8], last: u8) -> usize
 /// Puts a name and a byte after the bytes held back in a block, which end at `end`, and returns where
 /// they end then: with room for a count after them. If there is too little room, what is held back is
 /// written, and then a name that is longer than a block.
-fn put_name<W: Sink>(
+pub(crate) fn put_name<W: Sink>(
     out: &mut W,
     block: &mut [u8; BLOCK],
     end: usize,
@@ -332,7 +332,7 @@ pub(crate) fn count_over_areas<R: Source, T: Source, W: Sink>(
     file: &mut T,
     out: &mut W,
 ) -> Result<(), RunError>
-    ensures { EndsOverAreas (table_of options.now.table)
+    ensures { EndsOverAreas false (names_table options.now.table)
         (λ entries. EndsNumberedList (list_form list.now)
         (area_counts_answer options.now list.now entries)
         (source_use R.left R.has_failed input.old input.new) result

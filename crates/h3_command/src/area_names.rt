@@ -1,4 +1,4 @@
-//! The name of a cell's area. No two areas overlap.
+//! The name of a cell's area, if no two areas overlap, or the names of its areas.
 
 ghost use Rattle.std.specs.Prelude.{false, All};
 ghost use Rattle.h3_lines.specs.Pieces.{Uncut};
@@ -7,11 +7,11 @@ ghost use Rattle.h3_rows.specs.Areas.{names_in};
 use crate::files::look_ahead;
 use crate::required::cell_given;
 use h3_index::H3Error;
-use h3_lines::{LINES, TextFunction};
-use h3_regions::{ApartAreas, TabledZones};
+use h3_lines::{LINES, TextFunction, TextsFunction};
+use h3_regions::{ApartAreas, Areas, TabledZones};
 use h3_rows::Names;
 
-/// Answers a cell with the name of its area, or with `none` if it is in no area.
+/// Answers a cell with the name of its area, or with `none` if it is in no area. No two areas overlap.
 #[derive(Drop)]
 pub(crate) struct AreaOf<'a> {
     pub(crate) areas: ApartAreas<'a>,
@@ -48,5 +48,49 @@ impl<'a> TextFunction for AreaOf<'a> {
     #[inline(always)]
     fn look_ahead(&self, indexes: &[u64], place: usize) -> Option<[usize; LINES]> {
         look_ahead(&self.tabled, indexes, place)
+    }
+}
+
+/// Answers a cell with the names of its areas, in their order, or with `none` if it is in no area.
+#[derive(Drop)]
+pub(crate) struct AreasOf<'a> {
+    pub(crate) areas: Areas<'a>,
+    pub(crate) names: &'a Names,
+    pub(crate) none: &'a [u8],
+    ghost lines: { All (λ name. Uncut 10 names.now.quotes false name false)
+        (names_in names.now.bytes.items names.now.spans.items) },
+    ghost line: { Uncut 10 names.now.quotes false none.now false },
+}
+
+impl<'a> TextsFunction for AreasOf<'a> {
+    ghost use Rattle.std.specs.Prelude.{[], get_or, length};
+    ghost use Rattle.h3_command.specs.Areas.{name_answer};
+
+    ghost answer_of = { λ f. name_answer f.none.now
+        (names_in f.names.now.bytes.items f.names.now.spans.items) f.areas };
+
+    ghost counts_quotes = { λ f. f.names.now.quotes };
+
+    ghost needs = { λ f. length f.areas };
+
+    ghost text_of = { λ f n. get_or (names_in f.names.now.bytes.items f.names.now.spans.items) n [] };
+
+    ghost none_of = { λ f. f.none.now };
+
+    fn find(&self, index: Option<u64>, numbers: &mut [u32]) -> Result<usize, H3Error> {
+        Ok(self.areas.areas_of(cell_given(index)?, numbers))
+    }
+
+    #[inline(always)]
+    fn text(&self, number: u32) -> &[u8] {
+        match self.names.get(number as usize) {
+            Some(name) => name,
+            None => b"",
+        }
+    }
+
+    #[inline(always)]
+    fn none(&self) -> &[u8] {
+        self.none
     }
 }

@@ -1,10 +1,13 @@
 //! Laws of the answers beside rows. Proof only: the functions compile to nothing.
 
 ghost use Rattle.h3_command.specs.AreaCounts.{AreaCountsPrintedAddUp};
-ghost use Rattle.h3_command.specs.Join.{CellsGetTheirNames, OthersGetNone};
+ghost use Rattle.h3_command.specs.AreaSums.{AreaSumsInParts};
+ghost use Rattle.h3_command.specs.Join.{CellsGetTheirNames, NamesAreOfRows, NamesDiffer, OneNameEach, OthersGetNone};
+ghost use Rattle.h3_command.specs.SumAnswers.{AreaSumsPrintedAddUp};
 ghost use Rattle.h3_rows.specs.Areas.{NamesStandOnce};
 ghost use Rattle.h3_command.specs.NewColumns.{AnswersAreWords, ErrorNamesAreFields, ErrorNamesAreKept, NamesAreKept, RowsStandOnce, TitlesAreFields, WordPairsAreKept, WordPairsAreUncut, WordsAreFields, WordsAreKept};
 
+use h3_numbers::laws::totals_are_lawful;
 use h3_regions::laws::areas_are_lawful;
 use h3_rows::laws::{answers_stand_beside, areas_divide_cells};
 
@@ -34,10 +37,14 @@ pub fn answers_are_fields()
     areas_divide_cells();
 }
 
-/// If no two areas of a table overlap, a cell gets the name of every row whose cell is that cell or an ancestor
-/// of it; no two areas have names of one text. A cell without such a row gets what is written for none.
+/// A cell gets the name of every row whose cell is that cell or an ancestor of it, each once and no other; if no
+/// two areas of a table overlap, it gets one. No two areas have names of one text. A cell without such a row gets
+/// what is written for none.
 pub fn cells_get_their_names()
     ensures own { CellsGetTheirNames }
+    ensures of_rows { NamesAreOfRows }
+    ensures differ { NamesDiffer }
+    ensures one { OneNameEach }
     ensures others { OthersGetNone }
     ensures once { NamesStandOnce }
 {
@@ -51,4 +58,15 @@ pub fn area_counts_add_up()
 {
     areas_divide_cells();
     areas_are_lawful();
+}
+
+/// What is printed of the counts and sums of areas of which no two overlap adds up to the number of rows with
+/// a cell, and to the sum of their numbers; and the sums of the parts of a list, to those of the whole.
+pub fn area_sums_add_up()
+    ensures whole { AreaSumsPrintedAddUp }
+    ensures parts { AreaSumsInParts }
+{
+    areas_divide_cells();
+    areas_are_lawful();
+    totals_are_lawful();
 }

@@ -3,7 +3,12 @@
 
 mod area_counts;
 mod area_names;
+mod area_sums;
 mod areas;
+mod by;
+mod by_lists;
+mod by_sets;
+mod by_value;
 mod children;
 mod count_lines;
 mod counts;
@@ -20,6 +25,8 @@ mod rows;
 pub mod run;
 mod sets;
 mod sizes;
+mod sum_rows;
+mod sum_tally;
 mod table_lists;
 mod table_query;
 mod uncompacted_lines;

@@ -1,7 +1,7 @@
 //! Lists that are answered line by line: bare, or as rows, each of which is written with the answer to
 //! its own cell beside it.
 
-ghost use Rattle.std.specs.Prelude.{◌≡◌};
+ghost use Rattle.std.specs.Prelude.{◌≡◌, ◌≤◌, length};
 ghost use Rattle.h3_functions.specs.Outcome.{function_name};
 ghost use Rattle.h3_lines.specs.Reads.{source_use};
 ghost use Rattle.h3_lines.specs.Write.{sink_use};
@@ -12,11 +12,11 @@ ghost use Rattle.h3_command.specs.Run.{EndsLines};
 
 use crate::per_index::{AnswerOf, index_functions};
 use h3_lines::{
-    AnswerLine, LinesFunction, RunError, TextFunction, answer_each, answer_each_lines,
-    answer_each_text,
+    AnswerLine, LinesFunction, RunError, TextFunction, TextsFunction, answer_each,
+    answer_each_lines, answer_each_text, answer_each_texts,
 };
 use h3_requests::{IndexFunction, RowOptions};
-use h3_rows::{answer_rows, answer_rows_lines, answer_rows_text};
+use h3_rows::{answer_rows, answer_rows_lines, answer_rows_text, answer_rows_texts};
 use h3_streams::{Sink, Source};
 use std::alloc::Global;
 
@@ -72,6 +72,28 @@ pub(crate) fn answer_listed_texts<R: Source, W: Sink, F: TextFunction>(
     match rows {
         None => answer_each_text(alloc, function, input, out),
         Some(options) => answer_rows_text(alloc, options, name, function, input, out),
+    }
+}
+
+/// The same with a function that answers by one or more texts of any length, each on a line of its own. There
+/// must be as many numbers as it needs.
+pub(crate) fn answer_listed_several<R: Source, W: Sink, F: TextsFunction>(
+    alloc: Global,
+    rows: &Option<RowOptions>,
+    name: &[u8],
+    function: &F,
+    numbers: &mut [u32],
+    input: &mut R,
+    out: &mut W,
+) -> Result<(), RunError>
+    requires { F.needs function.now ≤ length numbers.old }
+    ensures { EndsLines (text_form rows.now (F.counts_quotes function.now) name.now)
+        (F.answer_of function.now) (source_use R.left R.has_failed input.old input.new) result
+        (sink_use W.taken W.has_failed out.old out.new) }
+{
+    match rows {
+        None => answer_each_texts(alloc, function, numbers, input, out),
+        Some(options) => answer_rows_texts(alloc, options, name, function, numbers, input, out),
     }
 }
 

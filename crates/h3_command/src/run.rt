@@ -6,20 +6,26 @@ ghost use Rattle.h3_lines.specs.Write.{sink_use};
 ghost use Rattle.h3_rows.specs.Areas.{NamesStandOnce};
 ghost use Rattle.h3_rows.specs.Laws.{FieldsAreKept, HeaderStands, MarksAreKept, OutputReadsBack, RowsAreWhole, RowsGiveBack, RowsStand, RowsStandUntil};
 ghost use Rattle.h3_command.specs.AreaCounts.{AreaCountsPrintedAddUp};
-ghost use Rattle.h3_command.specs.Answer.{reads_list, reads_table, request, request_of};
+ghost use Rattle.h3_command.specs.AreaSums.{AreaSumsInParts};
+ghost use Rattle.h3_command.specs.SumAnswers.{AreaSumsPrintedAddUp};
+ghost use Rattle.h3_requests.specs.Rows.{is_counted_if};
+ghost use Rattle.h3_command.specs.Answer.{area_counts_request, reads_list, reads_table, request, request_of, summed};
 ghost use Rattle.h3_command.specs.Files.{CountsPrintedAddUp};
-ghost use Rattle.h3_command.specs.Join.{CellsGetTheirNames, OthersGetNone};
+ghost use Rattle.h3_command.specs.Join.{CellsGetTheirNames, NamesAreOfRows, NamesDiffer, OneNameEach, OthersGetNone};
 ghost use Rattle.h3_command.specs.NewColumns.{AnswersAreWords, ErrorNamesAreFields, ErrorNamesAreKept, NamesAreKept, RowsStandOnce, TitlesAreFields, WordPairsAreKept, WordPairsAreUncut, WordsAreFields, WordsAreKept};
 ghost use Rattle.h3_command.specs.Run.{Ends, Runs};
 
 use crate::area_counts::count_over_areas;
+use crate::area_sums::sum_over_areas;
 use crate::areas::answer_over_areas;
+use crate::by::{answer_lists, answer_numbered_lists};
 use crate::children::cells_to_children;
 use crate::file_query::FileQuery::*;
 use crate::file_query::answer_over_file;
 use crate::files::Combination::*;
-use crate::laws::{answers_are_fields, area_counts_add_up, cells_get_their_names};
-use crate::listed::{answer_whole, answer_whole_numbered};
+use crate::laws::{
+    answers_are_fields, area_counts_add_up, area_sums_add_up, cells_get_their_names,
+};
 use crate::per_index::write_answer_for;
 use crate::plan::{Plan, plan_of};
 use crate::rows::answer_function;
@@ -32,10 +38,36 @@ use crate::words_query::write_words_answer;
 use h3_lines::{RunError, report};
 use h3_regions::laws::counts_add_up;
 use h3_requests::Command::*;
-use h3_requests::{Command, Tables};
+use h3_requests::{AreaOptions, CellField, Command, RowOptions, Tables};
 use h3_rows::laws::answers_stand_beside;
 use h3_streams::{Sink, Source};
 use std::alloc::Global;
+
+/// Counts the cells of a list by the areas of a table, and adds up the numbers in a field of its rows, if it
+/// has rows, and that is asked.
+fn count_by_areas<R: Source, T: Source, W: Sink>(
+    alloc: Global,
+    areas: &AreaOptions,
+    rows: &Option<RowOptions>,
+    field: &Option<CellField>,
+    input: &mut R,
+    table: &mut T,
+    out: &mut W,
+) -> Result<(), RunError>
+    requires { is_counted_if field.now ≡ true }
+    ensures { Ends (area_counts_request areas.now rows.now (summed rows.now field.now))
+        (source_use R.left R.has_failed input.old input.new)
+        (source_use T.left T.has_failed table.old table.new) result
+        (sink_use W.taken W.has_failed out.old out.new) }
+{
+    match rows {
+        None => count_over_areas(alloc, areas, rows, input, table, out),
+        Some(list) => match field {
+            None => count_over_areas(alloc, areas, rows, input, table, out),
+            Some(field) => sum_over_areas(alloc, areas, list, field, input, table, out),
+        },
+    }
+}
 
 /// Does what a command asks that reads a file or a table and then a list, up to the line on standard
 /// error.
@@ -64,7 +96,7 @@ fn run_file_then_list<R: Source, T: Source, W: Sink>(
         },
         CountCellsInZones => match &tables.areas {
             None => answer_over_file(alloc, Counts, tables, input, table, out),
-            Some(areas) => count_over_areas(alloc, areas, rows, input, table, out),
+            Some(areas) => count_by_areas(alloc, areas, rows, &tables.sum, input, table, out),
         },
         GridDisksUnsafe { k } => answer_over_table(alloc, Disk { k }, rows, input, table, out),
         GridDisksDistancesUnsafe { k } => {
@@ -97,10 +129,10 @@ fn perform_over_list<R: Source, T: Source, W: Sink>(
     match *command {
         ForEach(function) => answer_function(alloc, rows, function, input, out),
         CellsToChildren { res } => cells_to_children(alloc, res, rows, input, out),
-        CompactCells => answer_whole(alloc, CompactList, rows, input, out),
-        UncompactCells { res } => answer_whole(alloc, UncompactList { res }, rows, input, out),
+        CompactCells => answer_lists(alloc, CompactList, tables, input, out),
+        UncompactCells { res } => answer_lists(alloc, UncompactList { res }, tables, input, out),
         UncompactCellsSize { res } => uncompact_cells_size(alloc, res, rows, input, out),
-        UniteCells => answer_whole_numbered(alloc, UniteList, rows, input, out),
+        UniteCells => answer_numbered_lists(alloc, UniteList, tables, input, out),
         _ => run_file_then_list(alloc, command, tables, input, table, out),
     }
 }
@@ -133,7 +165,8 @@ fn perform<R: Source, T: Source, W: Sink>(
 /// with the answer to its own cell beside it. One that answers about its list as a whole takes the cells
 /// of the rows as the list. Of the rows of a file the cells are taken; or, by `cellsToZones`, the cells
 /// with their names, if `tables.areas` says how these are read. It then answers a cell with the name of its
-/// area, and two areas that overlap are an error before the list is read.
+/// area, and two areas that overlap are an error before the list is read; or, if they may overlap, with the names
+/// of its areas, the one with the coarsest cell above it first.
 pub fn run_over<R: Source, T: Source, W: Sink, E: Sink>(
     alloc: Global,
     command: &Command,
@@ -159,8 +192,11 @@ pub fn run_over<R: Source, T: Source, W: Sink, E: Sink>(
     // A law, whatever the command: what is printed of the counts of zones adds up to the list.
     ensures counts { CountsPrintedAddUp }
 
-    // The same of the counts of areas.
+    // The same of the counts of areas, and of the sums of numbers; and the sums of parts add up to those of the
+    // whole.
     ensures area_counts { AreaCountsPrintedAddUp }
+    ensures area_sums { AreaSumsPrintedAddUp }
+    ensures sums_in_parts { AreaSumsInParts }
 
     // Laws, whatever the rows: each stands in the output with the answers to its own cell, up to the row
     // that ends the answer, and the rows are the list again, as are the fields of a row without the new
@@ -187,10 +223,14 @@ pub fn run_over<R: Source, T: Source, W: Sink, E: Sink>(
     ensures errors_uncut { ErrorNamesAreFields }
     ensures errors { ErrorNamesAreKept }
 
-    // Laws of the zones with names: a cell gets the name of each row of the table that covers it, and
-    // what is written for none if no row does. Where the list is cut as the table is, a name is one field
-    // beside its row; and so is the name that the new column gets of the table.
+    // Laws of the zones with names: a cell gets the name of each row of the table that covers it, each once
+    // and no other, one if no two areas overlap; and what is written for none if no row does. Where the list
+    // is cut as the table is, a name is one field beside its row; and so is the name that the new column gets
+    // of the table.
     ensures join { CellsGetTheirNames }
+    ensures of_rows { NamesAreOfRows }
+    ensures differ { NamesDiffer }
+    ensures one_name { OneNameEach }
     ensures others { OthersGetNone }
     ensures once_named { NamesStandOnce }
     ensures titles { TitlesAreFields }
@@ -201,6 +241,7 @@ pub fn run_over<R: Source, T: Source, W: Sink, E: Sink>(
     answers_are_fields();
     cells_get_their_names();
     area_counts_add_up();
+    area_sums_add_up();
     let ending = perform(alloc, command, tables, input, table, out);
     report(err, ending)
 }
@@ -246,6 +287,8 @@ pub fn run<R: Source, T: Source, W: Sink, E: Sink>(
 {
     let tables = Tables {
         list: None,
+        sum: None,
+        by: None,
         file: None,
         areas: None,
     };

@@ -28,7 +28,9 @@ returns-in_err-table g c =
     let list = c.args.list.now in
     let names = names_in c.args.names.now.bytes.items c.args.names.now.spans.items in
     let title : Option (List ℕ) = if has_header options list then Some c.args.title.now else None in
-    let about : List Address → Answer = λ cells. written (counts_table options.table.rows.separator title (area_counts (string_bytes options.none) names c.args.areas cells)) in
+    let about : List Address → Answer =
+    λ cells. written (counts_table options.table.rows.separator title
+    (area_counts (string_bytes options.none) names c.args.areas cells)) in
     rw (p.1, p.2, c.in_err-table.ensures) (list_unread (list_form list) about input out refl refl (Keeps-refl _, refl))
 
 pub returns-in_err-counts : goal.returns-in_err-counts
@@ -41,7 +43,9 @@ returns-in_err-counts g c =
     let list = c.args.list.now in
     let names = names_in c.args.names.now.bytes.items c.args.names.now.spans.items in
     let title : Option (List ℕ) = if has_header options list then Some c.args.title.now else None in
-    let about : List Address → Answer = λ cells. written (counts_table options.table.rows.separator title (area_counts (string_bytes options.none) names c.args.areas cells)) in
+    let about : List Address → Answer =
+    λ cells. written (counts_table options.table.rows.separator title
+    (area_counts (string_bytes options.none) names c.args.areas cells)) in
     rw (p.1, p.2, out_of_memory) (list_unread (list_form list) about input out refl refl (Keeps-refl _, refl))
 
 pub returns-in_err-tally : goal.returns-in_err-tally
@@ -53,8 +57,11 @@ returns-in_err-tally g c =
     let list = c.args.list.now in
     let names = names_in c.args.names.now.bytes.items c.args.names.now.spans.items in
     let title : Option (List ℕ) = if has_header options list then Some c.args.title.now else None in
-    let about : List Address → Answer = λ cells. written (counts_table options.table.rows.separator title (area_counts (string_bytes options.none) names c.args.areas cells)) in
-    rw (p.1, p.2) (numbered_unanswered (list_form list) about input _ out c.in_err-tally.ensures.refused (Keeps-refl _, refl))
+    let about : List Address → Answer =
+    λ cells. written (counts_table options.table.rows.separator title
+    (area_counts (string_bytes options.none) names c.args.areas cells)) in
+    rw (p.1, p.2)
+    (numbered_unanswered (list_form list) about input _ out c.in_err-tally.ensures.refused (Keeps-refl _, refl))
 
 pub returns : goal.returns
 returns g c =
@@ -65,13 +72,16 @@ returns g c =
     let list = c.args.list.now in
     let names = names_in c.args.names.now.bytes.items c.args.names.now.spans.items in
     let title : Option (List ℕ) = if has_header options list then Some c.args.title.now else None in
-    let about : List Address → Answer = λ cells. written (counts_table options.table.rows.separator title (area_counts (string_bytes options.none) names c.args.areas cells)) in
+    let about : List Address → Answer =
+    λ cells. written (counts_table options.table.rows.separator title
+    (area_counts (string_bytes options.none) names c.args.areas cells)) in
     let spans = c.args.names.now.spans.items in
     let counts = c.in_ok-tally.tally.counts.items in
     let others = c.in_ok-tally.tally.none in
     let none = string_bytes options.none in
     let areas = c.args.areas in
-    let zeros : c.in_ok-counts.counts.items ≡ replicate (length spans) 0 = first_of (search rules, grind (arith, common_steps)) in
+    let zeros : c.in_ok-counts.counts.items ≡ replicate (length spans) 0 =
+    first_of (search rules, grind (arith, common_steps)) in
     let start = subst (λ l. AreAreaCounts areas [] l 0) (sym zeros) (nothing_counted areas (length spans)) in
     let told : AreAreaCounts areas cells counts others = more [] start in
     let size : length counts ≡ length names =
@@ -79,5 +89,7 @@ returns g c =
     let rows = counts_named names none areas cells counts others size told in
     let wrote : Writes (written (counts_table options.table.rows.separator title (named_counts names counts (length counts) ++ (none, others) ∷ []))) c.write_area_counts.result out =
     rw (c.header_title-title.ensures, c.deref-2.ensures.value, c.as_bytes.ensures.value) at c.write_area_counts.ensures in
-    let answered = subst (λ r. Writes (written (counts_table options.table.rows.separator title r)) c.write_area_counts.result out) rows wrote in
+    let answered =
+    subst (λ r. Writes
+    (written (counts_table options.table.rows.separator title r)) c.write_area_counts.result out) rows wrote in
     numbered_ends (list_form list) about cells input _ out gives (inl answered)

@@ -16,5 +16,6 @@ returns-in-Ok g c = λ entries holds.
     let out = sink_use g.W.Sink.taken g.W.Sink.has_failed c.args.out.now c.count_apart.new.out in
     let free : areas_refusal c.args.table.now.cells.items ≡ None = search rules in
     let alike = rw c.deref_mut.ensures.value at c.in-Ok.ensures.alike in
-    ends_counted c.areas_are_lawful.ensures.alike c.args.options.now c.args.list.now entries c.args.table.now c.in-Ok.areas c.name_of_column-title.result.now input c.count_apart.result out
+    ends_counted c.areas_are_lawful.ensures.alike c.args.options.now c.args.list.now entries c.args.table.now
+    c.in-Ok.areas c.name_of_column-title.result.now input c.count_apart.result out
     holds free alike c.name_of_column-title.ensures c.count_apart.ensures

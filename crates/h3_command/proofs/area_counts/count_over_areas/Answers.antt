@@ -1,9 +1,9 @@
-use Rattle.std.proofs.Common.{inr, refl}
+use Rattle.std.proofs.Common.{false, inr, refl}
 use Rattle.std.proofs.KnownBytes.{Keeps-refl}
 use Rattle.std.proofs.lemmas.Result.{err_from_is_err_and}
 use Rattle.h3_lines.specs.Reads.{source_use}
 use Rattle.h3_lines.specs.Write.{sink_use}
-use Rattle.h3_rows.specs.Named.{table_of}
+use Rattle.h3_rows.specs.Named.{names_table}
 use Rattle.h3_command.specs.AreaCounts.{area_counts_answer}
 use Rattle.h3_command.specs.Rows.{list_form}
 use Rattle.h3_command.specs.Run.{EndsNumberedList}
@@ -14,13 +14,14 @@ use Rattle.h3_command.proofs.area_counts.count_over_areas.Goals as goal
 pub count_areas-requires : goal.count_areas-requires
 count_areas-requires g c =
     let (bytes, held, entries, reads, holds) = c.in_ok-table.ensures.table in
-    numbered_below c.areas_divide_cells.ensures.numbers c.args.options.now.table.rows.quotes entries c.in_ok-table.table holds
+    numbered_below c.areas_divide_cells.ensures.numbers c.args.options.now.table.rows.quotes entries c.in_ok-table.table
+    holds
 
 pub returns-in_err-table : goal.returns-in_err-table
 returns-in_err-table g c =
     let p = err_from_is_err_and c.from_residual.result c.from_residual.ensures.1 in
     let (bytes, held, refused) = c.in_err-table.ensures.refused in
-    rw (p.1, p.2) (bytes, held, inr (refused, (refl, refl), (Keeps-refl _, refl)))
+    rw (p.1, p.2) (bytes, held, inr (refused false, (refl, refl), (Keeps-refl _, refl)))
 
 pub returns : goal.returns
 returns g c =
@@ -30,5 +31,6 @@ returns g c =
     let out = sink_use g.W.Sink.taken g.W.Sink.has_failed c.args.out.now c.count_areas.new.out in
     let options = c.args.options.now in
     let list = c.args.list.now in
-    ends_judged (table_of options.table) (λ entries. EndsNumberedList (list_form list) (area_counts_answer options list entries) input c.count_areas.result out)
+    ends_judged false (names_table options.table) (λ entries. EndsNumberedList (list_form list)
+    (area_counts_answer options list entries) input c.count_areas.result out)
     bytes entries input file c.count_areas.result out held reads (c.count_areas.ensures entries holds)

@@ -11,7 +11,9 @@ returns-in_err-at-clause-err g c =
     let p = err_from_is_err_and c.from_residual.result c.from_residual.ensures.1 in
     let rest = codes "count" ++ 10 ∷ [] in
     let out = sink_use g.W.Sink.taken g.W.Sink.has_failed c.args.out.now c.put_name.new.out in
-    let fails = subst (λ l. FailsPush l out) (row_parts [] c.in-Some.title.now c.args.separator rest) (push_more _ rest out c.in_err-at.ensures.err) in
+    let fails =
+    subst (λ l. FailsPush l out) (row_parts [] c.in-Some.title.now c.args.separator rest)
+    (push_more _ rest out c.in_err-at.ensures.err) in
     rw (p.1, c.in-Some.is) fails
 
 pub returns-clause-ok : goal.returns-clause-ok

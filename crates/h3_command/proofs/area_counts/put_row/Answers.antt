@@ -13,13 +13,16 @@ returns-in_err-at-clause-err g c =
     let held = take c.args.end c.args.block.now in
     let rest = number_line c.args.count in
     let out = sink_use g.W.Sink.taken g.W.Sink.has_failed c.args.out.now c.put_name.new.out in
-    let fails = subst (λ l. FailsPush l out) (row_parts held c.args.name.now c.args.separator rest) (push_more _ rest out c.in_err-at.ensures.err) in
+    let fails =
+    subst (λ l. FailsPush l out) (row_parts held c.args.name.now c.args.separator rest)
+    (push_more _ rest out c.in_err-at.ensures.err) in
     rw p.1 fails
 
 pub returns-clause-ok : goal.returns-clause-ok
 returns-clause-ok g c =
     let held = take c.args.end c.args.block.now in
     let rest = number_line c.args.count in
-    subst (λ l. Moves g.W.Sink.taken g.W.Sink.has_failed l (take c.put.result c.put.new.block) c.args.out.now c.put_name.new.out)
+    subst (λ l. Moves g.W.Sink.taken g.W.Sink.has_failed l
+    (take c.put.result c.put.new.block) c.args.out.now c.put_name.new.out)
     (row_parts held c.args.name.now c.args.separator rest)
     (moves_put g.W.Sink.taken g.W.Sink.has_failed _ _ rest _ _ _ c.in_ok-at.ensures.ok c.put.ensures.line)

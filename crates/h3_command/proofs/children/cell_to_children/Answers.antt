@@ -14,7 +14,8 @@ pub returns-in_err-cell : goal.returns-in_err-cell
 returns-in_err-cell g c =
     let p = err_from_is_err_and c.from_residual.result c.from_residual.ensures.1 in
     let found : cell_given c.args.index ≡ Err c.in_err-cell.field-0.0 = sym c.cell_given.ensures ∙ c.in_err-cell.was in
-    rw (p.1, p.2) (answered_refused (λ cells. written (cell_lines cells)) _ _ _ (no_cell c.args.index c.args.res _ found) (Keeps-refl _, refl))
+    rw (p.1, p.2) (answered_refused (λ cells. written (cell_lines cells)) _ _ _
+    (no_cell c.args.index c.args.res _ found) (Keeps-refl _, refl))
 
 pub returns-in_err-r : goal.returns-in_err-r
 returns-in_err-r g c =
@@ -23,4 +24,5 @@ returns-in_err-r g c =
     let found : cell_given c.args.index ≡ Ok cell = sym c.cell_given.ensures ∙ c.in_ok-cell.was in
     let same = to_z-of_z w32 c.args.res (search rules) in
     rw (p.1, p.2, of_cell c.args.index c.args.res cell found)
-    (answered_unless (λ cells. written (cell_lines cells)) _ _ _ _ (c.in_err-r.ensures.refused ∙ ap (descent_refusal (resolution cell)) same) (Keeps-refl _, refl))
+    (answered_unless (λ cells. written (cell_lines cells)) _ _ _ _
+    (c.in_err-r.ensures.refused ∙ ap (descent_refusal (resolution cell)) same) (Keeps-refl _, refl))

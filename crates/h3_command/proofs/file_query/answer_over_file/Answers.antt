@@ -11,7 +11,11 @@ use Rattle.h3_command.proofs.file_query.answer_over_file.Goals as goal
 pub answer_query-requires : goal.answer_query-requires
 answer_query-requires g c =
     let (bytes, held, listed, gives, arranged) = rw c.file_of.ensures at c.in_ok-cells.ensures.cells in
-    search (rules, arranged_zones (file_of c.args.query) listed c.in_ok-cells.cells.items arranged, c.deref_mut.ensures.value)
+    search (
+      rules,
+      arranged_zones (file_of c.args.query) listed c.in_ok-cells.cells.items arranged,
+      c.deref_mut.ensures.value,
+    )
 
 pub returns-in_err-cells : goal.returns-in_err-cells
 returns-in_err-cells g c =
@@ -19,7 +23,8 @@ returns-in_err-cells g c =
     let (bytes, held, refused) = c.in_err-cells.ensures.refused in
     let file = source_use g.T.Source.left g.T.Source.has_failed c.args.file.now c.read_file.new.file in
     let form = file_form c.args.tables.now in
-    let told = subst (λ kind. RefusesFile kind form bytes file (Err c.in_err-cells.field-0.0)) c.file_of.ensures refused in
+    let told =
+    subst (λ kind. RefusesFile kind form bytes file (Err c.in_err-cells.field-0.0)) c.file_of.ensures refused in
     rw (p.1, p.2) (bytes, held, inr (told, (refl, refl), (Keeps-refl _, refl)))
 
 pub returns : goal.returns

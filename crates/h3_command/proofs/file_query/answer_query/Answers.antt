@@ -19,13 +19,16 @@ pub returns-in-Combined : goal.returns-in-Combined
 returns-in-Combined g c =
     let input = source_use g.R.Source.left g.R.Source.has_failed c.args.input.now c.answer_whole_numbered.new.input in
     let out = sink_use g.W.Sink.taken g.W.Sink.has_failed c.args.out.now c.answer_whole_numbered.new.out in
-    rw c.in-Combined.is (λ listed same. subst (λ l. EndsNumberedList (list_form c.args.rows.now) (combined_answer c.in-Combined.kind l) input c.answer_whole_numbered.result out) same c.answer_whole_numbered.ensures)
+    rw c.in-Combined.is (λ listed same. subst (λ l. EndsNumberedList (list_form c.args.rows.now)
+    (combined_answer c.in-Combined.kind l) input
+    c.answer_whole_numbered.result out) same c.answer_whole_numbered.ensures)
 
 pub returns-in-Covered : goal.returns-in-Covered
 returns-in-Covered g c =
     let input = source_use g.R.Source.left g.R.Source.has_failed c.args.input.now c.answer_covered.new.input in
     let out = sink_use g.W.Sink.taken g.W.Sink.has_failed c.args.out.now c.answer_covered.new.out in
-    rw c.in-Covered.is (λ listed same. subst (λ l. EndsLines (rows_form c.args.rows.now (codes "isCovered")) (covered_answer l) input c.answer_covered.result out) same c.answer_covered.ensures)
+    rw c.in-Covered.is (λ listed same. subst (λ l. EndsLines (rows_form c.args.rows.now (codes "isCovered"))
+    (covered_answer l) input c.answer_covered.result out) same c.answer_covered.ensures)
 
 pub returns-in-Zones : goal.returns-in-Zones
 returns-in-Zones g c =
@@ -33,7 +36,9 @@ returns-in-Zones g c =
     let out = sink_use g.W.Sink.taken g.W.Sink.has_failed c.args.out.now c.answer_zones.new.out in
     let items = c.args.cells.now in
     rw c.in-Zones.is (λ listed (same, zones).
-    let alike = zones_alike items listed (λ x. c.zones_are_lawful.ensures.in_any_order.zone items listed x zones.apart (IsPermutation-sym listed items same)) in
+    let alike =
+    zones_alike items listed (λ x. c.zones_are_lawful.ensures.in_any_order.zone items listed x zones.apart
+    (IsPermutation-sym listed items same)) in
     subst (λ answer. EndsLines (rows_form c.args.rows.now (codes "zone")) answer input c.answer_zones.result out) alike c.answer_zones.ensures)
 
 pub returns-in-Counts : goal.returns-in-Counts
@@ -44,5 +49,7 @@ returns-in-Counts g c =
     let any = c.zones_are_lawful.ensures.in_any_order in
     rw c.in-Counts.is (λ listed (same, zones).
     let back = IsPermutation-sym listed items same in
-    let alike = counts_alike items listed (any.number items listed zones.apart zones.valid back) (λ x. any.covered items listed x back) in
+    let alike =
+    counts_alike items listed (any.number items listed zones.apart zones.valid back)
+    (λ x. any.covered items listed x back) in
     subst (λ answer. EndsNumberedList (list_form c.args.rows.now) answer input c.answer_counts.result out) alike c.answer_counts.ensures)

@@ -16,4 +16,5 @@ returns g c =
     let region = c.of-region.result in
     let listed = compacted c.args.cells.now in
     subst (λ answer. EndsLines form answer input c.answer_listed.result out)
-    (covered_alike region listed (λ x. c.zones_are_lawful.ensures.in_any_order.covered region listed x (IsPermutation-sym listed region c.of-region.ensures.list))) c.answer_listed.ensures
+    (covered_alike region listed (λ x. c.zones_are_lawful.ensures.in_any_order.covered region listed x
+    (IsPermutation-sym listed region c.of-region.ensures.list))) c.answer_listed.ensures

@@ -15,7 +15,8 @@ returns-in-Ok-arrange-clause-cells g c =
     let whole : take c.in-Ok.cells.len (new ++ drop (length new) listed) ≡ new =
     first_of (search rules, grind (arith, common_steps)) in
     let arranged = rw c.deref_mut.ensures.value at c.in-Ok-arrange.ensures.arranged in
-    let (bytes, held, gives) = file_given c.args.kind (list_form c.args.rows.now) file listed c.in-Ok.ensures.cells none in
+    let (bytes, held, gives) =
+    file_given c.args.kind (list_form c.args.rows.now) file listed c.in-Ok.ensures.cells none in
     (bytes, held, listed, gives, rw whole arranged)
 
 pub returns-in-Err-arrange-clause-refused : goal.returns-in-Err-arrange-clause-refused

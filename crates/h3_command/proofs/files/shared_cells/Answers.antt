@@ -11,4 +11,5 @@ returns-clause-ok c =
 
 pub returns-clause-region : goal.returns-clause-region
 returns-clause-region c =
-    IfOk-weaker c.copied.result _ _ (λ shared is. subst IsRegion (sym (is ∙ c.cells-3.ensures.is)) c.intersect-shared.ensures.region) c.copied.ensures.ok
+    IfOk-weaker c.copied.result _ _ (λ shared is. subst IsRegion
+    (sym (is ∙ c.cells-3.ensures.is)) c.intersect-shared.ensures.region) c.copied.ensures.ok

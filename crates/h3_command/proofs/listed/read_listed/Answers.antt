@@ -15,7 +15,9 @@ pub returns-in-Some-clause-cells : goal.returns-in-Some-clause-cells
 returns-in-Some-clause-cells g c =
     let input = source_use g.R.Source.left g.R.Source.has_failed c.args.input.now c.take_row_cells.new.input in
     let form = form_of c.in-Some.options [] in
-    rw c.in-Some.is (items_given (λ v. v.items) _ (GivesRows form input) c.take_row_cells.result c.new.ensures.items (rows_given (λ cells v. v.items ≡ c.new.result.items ++ cells) form input c.take_row_cells.result c.take_row_cells.ensures.taken c.take_row_cells.ensures.sound))
+    rw c.in-Some.is (items_given (λ v. v.items) _ (GivesRows
+    form input) c.take_row_cells.result c.new.ensures.items (rows_given (λ cells v. v.items ≡ c.new.result.items ++
+    cells) form input c.take_row_cells.result c.take_row_cells.ensures.taken c.take_row_cells.ensures.sound))
 
 pub returns-in-Some-clause-refused : goal.returns-in-Some-clause-refused
 returns-in-Some-clause-refused g c = rw c.in-Some.is c.take_row_cells.ensures.refused

@@ -13,7 +13,8 @@ returns-in-None-clause-refused g c = rw c.in-None.is c.take_cells.ensures.refuse
 pub returns-in-Some-clause-taken : goal.returns-in-Some-clause-taken
 returns-in-Some-clause-taken g c =
     let input = source_use g.R.Source.left g.R.Source.has_failed c.args.input.now c.take_row_cells.new.input in
-    rw c.in-Some.is (rows_given (g.V.CellJob.taken c.args.job) (form_of c.in-Some.options []) input c.take_row_cells.result c.take_row_cells.ensures.taken c.take_row_cells.ensures.sound)
+    rw c.in-Some.is (rows_given (g.V.CellJob.taken c.args.job) (form_of c.in-Some.options
+    []) input c.take_row_cells.result c.take_row_cells.ensures.taken c.take_row_cells.ensures.sound)
 
 pub returns-in-Some-clause-refused : goal.returns-in-Some-clause-refused
 returns-in-Some-clause-refused g c = rw c.in-Some.is c.take_row_cells.ensures.refused

@@ -23,5 +23,7 @@ returns-in_err-walk_through-in-Ok-clause-err c =
 pub returns-clause-good : goal.returns-clause-good
 returns-clause-good c =
     let left = disk_left c.in-Ok.disk in
-    let ok : IsOk (whole_items left) = c.in_ok-walk_through-in-Ok.ensures.ok left (YieldsList-from_first (λ x. x) disk_left left refl).runs in
-    IfOk-weaker c.new-2.result _ _ (λ walk is. subst (λ l. IsOk (whole_items l)) (c.in-Ok.ensures.items ∙ sym is) ok) c.new-2.ensures.items
+    let ok : IsOk (whole_items left) =
+    c.in_ok-walk_through-in-Ok.ensures.ok left (YieldsList-from_first (λ x. x) disk_left left refl).runs in
+    IfOk-weaker c.new-2.result _ _
+    (λ walk is. subst (λ l. IsOk (whole_items l)) (c.in-Ok.ensures.items ∙ sym is) ok) c.new-2.ensures.items

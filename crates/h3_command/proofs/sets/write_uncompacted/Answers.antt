@@ -15,13 +15,17 @@ returns-in-Ok g c =
     let read : ℤ = to_z w32 (of_z w32 c.args.res) in
     let same : read ≡ c.args.res = to_z-of_z w32 c.args.res (search rules) in
     let r = c.in-Ok.r in
-    let here : uncompacted cells r ≡ uncompacted cells (unsigned_abs c.args.res) = ap (λ (z : ℤ). uncompacted cells (unsigned_abs z)) (c.in-Ok.ensures.is.0 ∙ same) in
+    let here : uncompacted cells r ≡ uncompacted cells (unsigned_abs c.args.res) =
+    ap (λ (z : ℤ). uncompacted cells (unsigned_abs z)) (c.in-Ok.ensures.is.0 ∙ same) in
     let out = sink_use g.W.Sink.taken g.W.Sink.has_failed c.args.out.now c.write_cells_lines.new.out in
     answered_value (λ cells. written (cell_lines cells)) _ _ (uncompacted cells r) _ _ here
     (c.in-Ok.ensures.refused ∙ ap (uncompact_refusal cells) same)
-    (subst (λ l. Writes (written l) c.write_cells_lines.result out) (uncompacted_lines r cells) c.write_cells_lines.ensures)
+    (subst (λ l. Writes (written l) c.write_cells_lines.result out)
+    (uncompacted_lines r cells) c.write_cells_lines.ensures)
 
 pub returns-in-Err : goal.returns-in-Err
 returns-in-Err g c =
     let cells = c.args.cells.now in
-    answered_unless (λ cells. written (cell_lines cells)) _ _ _ _ (c.in-Err.ensures.refused ∙ ap (uncompact_refusal cells) (to_z-of_z w32 c.args.res (search rules))) (Keeps-refl _, refl)
+    answered_unless (λ cells. written (cell_lines cells)) _ _ _ _
+    (c.in-Err.ensures.refused ∙ ap (uncompact_refusal cells) (to_z-of_z w32 c.args.res (search rules)))
+    (Keeps-refl _, refl)

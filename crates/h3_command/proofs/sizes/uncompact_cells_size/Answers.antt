@@ -21,7 +21,9 @@ returns-in_err-size g c =
     let p = err_from_is_err_and c.from_residual.result c.from_residual.ensures.1 in
     let input = source_use g.R.Source.left g.R.Source.has_failed c.args.input.now c.take_listed.new.input in
     let out = sink_use g.W.Sink.taken g.W.Sink.has_failed c.args.out.now c.args.out.now in
-    rw (p.1, p.2) (numbered_unanswered (list_form c.args.rows.now) (λ cells. printed number_line (uncompact_cells_size c.args.res cells)) input _ out c.in_err-size.ensures.refused (Keeps-refl _, refl))
+    rw (p.1, p.2) (numbered_unanswered (list_form c.args.rows.now)
+    (λ cells. printed number_line (uncompact_cells_size c.args.res cells)) input _ out c.in_err-size.ensures.refused
+    (Keeps-refl _, refl))
 
 pub returns : goal.returns
 returns g c =
@@ -29,12 +31,16 @@ returns g c =
     let res = c.args.res in
     let size = c.in_ok-size.size in
     let r = c.nothing_taken.result.res in
-    let first : IsSizeOf r [] c.nothing_taken.result.finer c.nothing_taken.result.total = record { is_finer = c.nothing_taken.ensures.finer; is_total = λ _. c.nothing_taken.ensures.total } in
+    let first : IsSizeOf r [] c.nothing_taken.result.finer c.nothing_taken.result.total =
+    record { is_finer = c.nothing_taken.ensures.finer; is_total = λ _. c.nothing_taken.ensures.total } in
     let read : ℤ = to_z w32 (of_z w32 res) in
     let same : read ≡ res = to_z-of_z w32 res (search rules) in
     let told : c.judged.result ≡ uncompact_cells_size res cells =
-    c.judged.ensures cells (started _ r (λ s. IsSizeOf s cells size.finer size.total) c.nothing_taken.ensures.res (taken.1 [] first))
+    c.judged.ensures cells
+    (started _ r (λ s. IsSizeOf s cells size.finer size.total) c.nothing_taken.ensures.res (taken.1 [] first))
     ∙ ap (λ (x : ℤ). uncompact_cells_size x cells) same in
     let out = sink_use g.W.Sink.taken g.W.Sink.has_failed c.args.out.now c.write_result.new.out in
     let input = source_use g.R.Source.left g.R.Source.has_failed c.args.input.now c.take_listed.new.input in
-    numbered_ends (list_form c.args.rows.now) (λ cells. printed number_line (uncompact_cells_size res cells)) cells input _ out gives (inl (rw told at c.write_result.ensures))
+    numbered_ends (list_form c.args.rows.now)
+    (λ cells. printed number_line (uncompact_cells_size res cells)) cells input _ out gives
+    (inl (rw told at c.write_result.ensures))

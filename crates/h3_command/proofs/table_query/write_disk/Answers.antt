@@ -15,11 +15,13 @@ pub returns-in-Ok : goal.returns-in-Ok
 returns-in-Ok g c =
     let read : ℤ = to_z w32 (of_z w32 c.args.k) in
     let same : read ≡ c.args.k = to_z-of_z w32 c.args.k (search rules) in
-    walk_written cell_line disk_cells_left (disk_refusal c.args.cell) (λ k. map without_ring (disk (link_of c.args.table.now) c.args.cell (unsigned_abs k))) c.args.k read _ _ same
+    walk_written cell_line disk_cells_left (disk_refusal c.args.cell)
+    (λ k. map without_ring (disk (link_of c.args.table.now) c.args.cell (unsigned_abs k))) c.args.k read _ _ same
     c.in-Ok.ensures.refused (ap (map without_ring) c.in-Ok.ensures.items) c.write_walk.ensures
 
 pub returns-in-Err : goal.returns-in-Err
 returns-in-Err g c =
     let read : ℤ = to_z w32 (of_z w32 c.args.k) in
     let same : read ≡ c.args.k = to_z-of_z w32 c.args.k (search rules) in
-    walk_unbegun cell_line (disk_refusal c.args.cell) _ c.args.k read _ _ same c.in-Err.ensures.refused (Keeps-refl _, refl)
+    walk_unbegun cell_line (disk_refusal c.args.cell) _ c.args.k read _ _ same c.in-Err.ensures.refused
+    (Keeps-refl _, refl)

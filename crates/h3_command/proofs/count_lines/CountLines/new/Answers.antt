@@ -16,6 +16,7 @@ returns c cells told =
     ∙ ap (λ z. in_passes 16 z c.args.counts.now) c.cells.ensures.is
     ∙ ap (in_passes 16 zones) told.each
     ∙ counts_in_passes (λ zone. count_in zone cells) 16 zones
-    ∙ ap (λ z. zone_counts z cells) (zones_by_number c.cells_form_intervals.ensures zones c.cells.ensures.zones c.zones_are_lawful.ensures.by_number)
+    ∙ ap (λ z. zone_counts z cells) (zones_by_number c.cells_form_intervals.ensures zones c.cells.ensures.zones
+    c.zones_are_lawful.ensures.by_number)
     )
     ∙ ap (λ n. zone_counts (by_number zones) cells ++ (None, n) ∷ []) told.none

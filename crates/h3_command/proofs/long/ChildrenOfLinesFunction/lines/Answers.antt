@@ -26,9 +26,12 @@ returns-clause-ok c =
     let whole : for_value (λ h. cell_to_children h res) (index_given c.args.index) ≡ Ok (descendants cell r) =
     of_cell c.args.index res cell found ∙ unless_fits (descent_refusal (resolution cell)) (λ n. descendants cell n) res read r same c.in_ok-r.ensures.refused c.in_ok-r.ensures.is.0 in
     let all = items_below r cell in
-    let gives : YieldsList (YieldsFirst child_lines_left) (λ x. x) c.lines_below.result all = YieldsList-from_first (λ x. x) child_lines_left all c.lines_below.ensures in
+    let gives : YieldsList (YieldsFirst child_lines_left) (λ x. x) c.lines_below.result all =
+    YieldsList-from_first (λ x. x) child_lines_left all c.lines_below.ensures in
     record {
       all = all;
       yields = gives.runs;
-      is = ap (printed cell_lines) whole ∙ ap written (sym (item_lines r cell c.in_ok-r.ensures.is.1 c.descendants_are_children.ensures));
+      is =
+          ap (printed cell_lines) whole
+          ∙ ap written (sym (item_lines r cell c.in_ok-r.ensures.is.1 c.descendants_are_children.ensures));
     }

@@ -23,10 +23,15 @@ returns-in-Ok-clause-ok c =
     let cell = c.in_ok-cell.cell in
     let found : cell_given c.args.index ≡ Ok cell = sym c.cell_given.ensures ∙ c.in_ok-cell.was in
     let items = good (disk_left c.in-Ok.walk) in
-    let whole : whole_walk (grid_disk_distances_unsafe link cell k) ≡ Ok items = (subst (λ n. whole_walk (grid_disk_distances_unsafe link cell n) ≡ whole_items (disk_left c.in-Ok.walk)) same c.in-Ok.ensures.ok) ∙ good_items (disk_left c.in-Ok.walk) c.in-Ok.ensures.good in
+    let whole : whole_walk (grid_disk_distances_unsafe link cell k) ≡ Ok items =
+    (subst (λ n. whole_walk (grid_disk_distances_unsafe link cell n)
+    ≡ whole_items (disk_left c.in-Ok.walk)) same c.in-Ok.ensures.ok)
+    ∙ good_items (disk_left c.in-Ok.walk) c.in-Ok.ensures.good in
     record {
       all = map (ring_cell between) items;
       yields = (YieldsList-from_first (λ x. x) distance_lines_left (map (ring_cell between) items) refl).runs;
-      is = printed_items (flat_map (ring_line_by between)) (λ c. whole_walk (grid_disk_distances_unsafe link c k)) (cell_given c.args.index) cell items found whole
+      is =
+          printed_items (flat_map (ring_line_by between)) (λ c. whole_walk (grid_disk_distances_unsafe link c k))
+          (cell_given c.args.index) cell items found whole
           ∙ ap written (sym (flat_map-map (λ v. ring_line_by v.between (v.cell, v.ring)) (ring_cell between) items));
     }

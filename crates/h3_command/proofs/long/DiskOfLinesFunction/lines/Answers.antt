@@ -23,11 +23,16 @@ returns-in-Ok-clause-ok c =
     let cell = c.in_ok-cell.cell in
     let found : cell_given c.args.index ≡ Ok cell = sym c.cell_given.ensures ∙ c.in_ok-cell.was in
     let all = map (λ item. item.0) (good (disk_left c.in-Ok.walk)) in
-    let items : whole_walk (grid_disk_unsafe link cell k) ≡ Ok all = dropped_good (disk_refusal cell k) (disk link cell (unsigned_abs k)) (disk_left c.in-Ok.walk) (subst (λ n. whole_walk (grid_disk_distances_unsafe link cell n) ≡ whole_items (disk_left c.in-Ok.walk)) same c.in-Ok.ensures.ok) c.in-Ok.ensures.good in
+    let items : whole_walk (grid_disk_unsafe link cell k) ≡ Ok all =
+    dropped_good (disk_refusal cell k) (disk link cell (unsigned_abs k)) (disk_left c.in-Ok.walk)
+    (subst (λ n. whole_walk (grid_disk_distances_unsafe link cell n) ≡ whole_items (disk_left c.in-Ok.walk)) same
+    c.in-Ok.ensures.ok) c.in-Ok.ensures.good in
     record {
       all = all;
       yields = (YieldsList-from_first (λ x. x) disk_lines_left all refl).runs;
-      is = printed_items cell_lines (λ c. whole_walk (grid_disk_unsafe link c k)) (cell_given c.args.index) cell all found items;
+      is =
+          printed_items cell_lines (λ c. whole_walk (grid_disk_unsafe link c k))
+          (cell_given c.args.index) cell all found items;
     }
 
 pub returns-in-Err-clause-err : goal.returns-in-Err-clause-err
@@ -38,4 +43,7 @@ returns-in-Err-clause-err c =
     let same : read ≡ k = to_z-of_z w32 k (search rules) in
     let cell = c.in_ok-cell.cell in
     let found : cell_given c.args.index ≡ Ok cell = sym c.cell_given.ensures ∙ c.in_ok-cell.was in
-    printed_refused cell_lines (λ c. whole_walk (grid_disk_unsafe link c k)) (cell_given c.args.index) cell c.in-Err.error found (dropped_refused (disk_refusal cell k) (disk link cell (unsigned_abs k)) c.in-Err.error (subst (λ n. whole_walk (grid_disk_distances_unsafe link cell n) ≡ Err c.in-Err.error) same c.in-Err.ensures.err))
+    printed_refused cell_lines (λ c. whole_walk (grid_disk_unsafe link
+    c k)) (cell_given c.args.index) cell c.in-Err.error found (dropped_refused (disk_refusal cell k) (disk link cell
+    (unsigned_abs k)) c.in-Err.error (subst (λ n. whole_walk (grid_disk_distances_unsafe link cell n) ≡ Err
+    c.in-Err.error) same c.in-Err.ensures.err))

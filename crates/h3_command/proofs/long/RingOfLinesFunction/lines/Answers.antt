@@ -20,9 +20,14 @@ returns-in-Ok-clause-ok c =
     let cell = c.in_ok-cell.cell in
     let found : cell_given c.args.index ≡ Ok cell = sym c.cell_given.ensures ∙ c.in_ok-cell.was in
     let all = good (ring_left c.in-Ok.walk) in
-    let items : whole_walk (grid_ring_unsafe link cell k) ≡ Ok all = (subst (λ n. whole_walk (grid_ring_unsafe link cell n) ≡ whole_items (ring_left c.in-Ok.walk)) same c.in-Ok.ensures.ok) ∙ good_items (ring_left c.in-Ok.walk) c.in-Ok.ensures.good in
+    let items : whole_walk (grid_ring_unsafe link cell k) ≡ Ok all =
+    (subst (λ n. whole_walk (grid_ring_unsafe link cell n)
+    ≡ whole_items (ring_left c.in-Ok.walk)) same c.in-Ok.ensures.ok)
+    ∙ good_items (ring_left c.in-Ok.walk) c.in-Ok.ensures.good in
     record {
       all = all;
       yields = (YieldsList-from_first (λ x. x) ring_lines_left all refl).runs;
-      is = printed_items cell_lines (λ c. whole_walk (grid_ring_unsafe link c k)) (cell_given c.args.index) cell all found items;
+      is =
+          printed_items cell_lines (λ c. whole_walk (grid_ring_unsafe link c k))
+          (cell_given c.args.index) cell all found items;
     }

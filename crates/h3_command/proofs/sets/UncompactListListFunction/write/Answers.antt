@@ -10,4 +10,5 @@ returns g c =
     let read : ℤ = to_z w32 (of_z w32 c.args.self.res) in
     let same : read ≡ c.args.self.res = to_z-of_z w32 c.args.self.res (search rules) in
     let out = sink_use g.W.Sink.taken g.W.Sink.has_failed c.args.out.now c.write_uncompacted.new.out in
-    inl (subst (λ (z : ℤ). Writes (printed cell_lines (uncompact_cells z c.args.cells.now)) c.write_uncompacted.result out) same c.write_uncompacted.ensures)
+    inl (subst (λ (z : ℤ). Writes (printed cell_lines
+    (uncompact_cells z c.args.cells.now)) c.write_uncompacted.result out) same c.write_uncompacted.ensures)

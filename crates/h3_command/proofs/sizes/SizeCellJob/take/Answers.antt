@@ -40,23 +40,29 @@ or_true : (k : Bool) → (k || true) ≡ true
 or_true true = refl
 or_true false = refl
 
-any_more : (p : Address → Bool) (before : List Address) (c : Address) → list_any p (before ++ c ∷ []) ≡ (list_any p before || p c)
+any_more : (p : Address → Bool) (before : List Address) (c : Address)
+    → list_any p (before ++ c ∷ []) ≡ (list_any p before || p c)
 any_more p [] c = or_false (p c)
 any_more p (b ∷ before) c = let rest = any_more p before c in grind (arith, common_steps, rest)
 
-sum_more : (r : ℕ) (before : List Address) (c : Address) → length (uncompacted (before ++ c ∷ []) r) ≡ length (uncompacted before r) + length (descendants c r)
+sum_more : (r : ℕ) (before : List Address) (c : Address)
+    → length (uncompacted (before ++ c ∷ []) r) ≡ length (uncompacted before r) + length (descendants c r)
 sum_more r before c = let parts = flat_map-append (λ x. descendants x r) before (c ∷ []) in grind (arith, common_steps, parts)
 
-adds : (r : ℕ) (before : List Address) (c : Address) (finer : Bool) (total size : ℕ) → IsSizeOf r before finer total → nat_lt r (resolution c) ≡ false
+adds : (r : ℕ) (before : List Address) (c : Address) (finer : Bool) (total size : ℕ) → IsSizeOf r before finer total
+    → nat_lt r (resolution c) ≡ false
     → size ≡ length (descendants c r) → IsSizeOf r (before ++ c ∷ []) finer (total + size)
 adds r before c finer total size h not_finer is =
     let p = λ (x : Address). nat_lt r (resolution x) in
     record {
-      is_finer = h.is_finer ∙ sym (any_more p before c ∙ ap (λ k. list_any p before || k) not_finer ∙ or_false (list_any p before));
+      is_finer =
+          h.is_finer
+          ∙ sym (any_more p before c ∙ ap (λ k. list_any p before || k) not_finer ∙ or_false (list_any p before));
       is_total = λ none. rw (h.is_total none, is) (sym (sum_more r before c));
     }
 
-refuses : (r : ℕ) (before : List Address) (c : Address) (finer : Bool) (total : ℕ) → IsSizeOf r before finer total → nat_lt r (resolution c) ≡ true
+refuses : (r : ℕ) (before : List Address) (c : Address) (finer : Bool) (total : ℕ) → IsSizeOf r before finer total
+    → nat_lt r (resolution c) ≡ true
     → IsSizeOf r (before ++ c ∷ []) true total
 refuses r before c finer total h is_finer =
     let p = λ (x : Address). nat_lt r (resolution x) in
@@ -71,8 +77,12 @@ returns-in-Ok-clause-ok c =
     let cell = c.args.cell in
     let z : ℤ = to_z w32 (of_z w32 c.from.result) in
     let same : z ≡ pos r = to_z-of_z w32 c.from.result (search rules) ∙ c.from.ensures in
-    let not_finer = none_false _ (c.in-Ok.ensures.refused ∙ ap (descent_refusal (resolution cell)) same ∙ refusal (resolution cell) r c.args.self.now.at_most_fifteen) in
-    let size : c.from-in-Ok.result ≡ length (descendants cell r) = c.from-in-Ok.ensures ∙ c.in-Ok.ensures.count ∙ ap (λ (x : ℤ). length (descendants cell (unsigned_abs x))) same in
+    let not_finer =
+    none_false _ (c.in-Ok.ensures.refused ∙ ap (descent_refusal (resolution cell)) same
+    ∙ refusal (resolution cell) r c.args.self.now.at_most_fifteen) in
+    let size : c.from-in-Ok.result ≡ length (descendants cell r) =
+    c.from-in-Ok.ensures ∙ c.in-Ok.ensures.count
+    ∙ ap (λ (x : ℤ). length (descendants cell (unsigned_abs x))) same in
     (refl, λ before h. adds r before cell _ _ _ h not_finer size)
 
 pub returns-in-Err-clause-ok : goal.returns-in-Err-clause-ok
@@ -81,5 +91,7 @@ returns-in-Err-clause-ok c =
     let cell = c.args.cell in
     let z : ℤ = to_z w32 (of_z w32 c.from.result) in
     let same : z ≡ pos r = to_z-of_z w32 c.from.result (search rules) ∙ c.from.ensures in
-    let finer = some_true _ _ (c.in-Err.ensures.refused ∙ ap (descent_refusal (resolution cell)) same ∙ refusal (resolution cell) r c.args.self.now.at_most_fifteen) in
+    let finer =
+    some_true _ _ (c.in-Err.ensures.refused ∙ ap (descent_refusal (resolution cell)) same
+    ∙ refusal (resolution cell) r c.args.self.now.at_most_fifteen) in
     (refl, λ before h. refuses r before cell _ _ h finer)

@@ -1,0 +1,36 @@
+use Rattle.std.proofs.Common.{◌≡◌, ◌∙◌, None, Some, ap, inr, length, refl, rules, sym}
+use Rattle.std.proofs.KnownBytes.{Keeps-refl}
+use Rattle.h3_lines.specs.Reads.{source_use}
+use Rattle.h3_lines.specs.Write.{sink_use}
+use Rattle.h3_regions.specs.Refusals.{areas_refusal}
+use Rattle.h3_rows.specs.Areas.{area_cells}
+use Rattle.h3_rows.specs.Named.{table_of}
+use Rattle.h3_rows.specs.declared.table.FieldContent.TheVariants.{Number}
+use Rattle.h3_command.specs.Areas.{overlap_error}
+use Rattle.h3_command.proofs.SummedAreas.{ends_summed}
+use Rattle.h3_command.proofs.area_sums.sum_apart.Goals as goal
+
+pub sum_found-requires-clause-small : goal.sum_found-requires-clause-small
+sum_found-requires-clause-small g c =
+    let numbers = rw c.deref_mut.ensures.value at c.in-Ok.ensures.numbers in
+    numbers (length c.args.table.now.names.spans.items) c.requires.small
+
+pub returns-in-Ok : goal.returns-in-Ok
+returns-in-Ok g c = λ zones holds.
+    let input = source_use g.R.Source.left g.R.Source.has_failed c.args.input.now c.sum_found.new.input in
+    let out = sink_use g.W.Sink.taken g.W.Sink.has_failed c.args.out.now c.sum_found.new.out in
+    let free : areas_refusal c.args.table.now.cells.items ≡ None = search rules in
+    let alike = rw c.deref_mut.ensures.value at c.in-Ok.ensures.alike in
+    ends_summed c.areas_are_lawful.ensures.tested (table_of c.args.list.now c.args.field.now Number) c.args.options.now
+    c.args.list.now zones c.args.table.now c.in-Ok.areas c.name_of_column-title.result.now input c.sum_found.result
+    out
+    holds (ap (λ b. overlap_error b c.args.table.now.cells.items) c.requires.may_not
+    ∙ free) alike c.name_of_column-title.ensures c.sum_found.ensures
+
+pub returns : goal.returns
+returns g c = λ zones holds.
+    let told : areas_refusal c.args.table.now.cells.items ≡ Some c.in-Err.refused.error = search rules in
+    let refused =
+    ap (λ b. overlap_error b (area_cells c.args.options.now.table.rows.quotes zones)) c.requires.may_not
+    ∙ ap areas_refusal (sym holds.cells) ∙ told in
+    inr (inr (c.in-Err.refused.error, refused, refl, (refl, refl), (Keeps-refl _, refl)))
