@@ -29,7 +29,9 @@ all_commands ks = more [] ks
   where
     -- one command more
     one : (before : List Command) (k : Command) → with_command (app_with before) k ≡ app_with (before ++ k ∷ [])
-    one before k = ap₂ (λ leaf subs. record { top = record (app_with []).top { is_leaf = leaf }; subs = subs }) (some_left before k) (sym (map-append shape_for before (k ∷ [])))
+    one before k =
+        ap₂ (λ leaf subs. record { top = record (app_with []).top { is_leaf = leaf }; subs = subs })
+        (some_left before k) (sym (map-append shape_for before (k ∷ [])))
       where
         some_left : (ks2 : List Command) (k2 : Command) → false ≡ is_empty (ks2 ++ k2 ∷ [])
         some_left [] k2 = refl
@@ -37,7 +39,9 @@ all_commands ks = more [] ks
 
     more : (before rest : List Command) → fold with_command (app_with before) rest ≡ app_with (before ++ rest)
     more before [] = ap app_with (sym (append-nil before))
-    more before (k ∷ rest) = ap (λ a. fold with_command a rest) (one before k) ∙ more (before ++ k ∷ []) rest ∙ ap app_with (append_assoc before (k ∷ []) rest)
+    more before (k ∷ rest) =
+        ap (λ a. fold with_command a rest) (one before k) ∙ more (before ++ k ∷ []) rest
+        ∙ ap app_with (append_assoc before (k ∷ []) rest)
 
 -- a command with these rules
 with_rules : Text → List Rule → App

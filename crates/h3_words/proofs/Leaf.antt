@@ -53,7 +53,9 @@ same_short _ _ = false
 
 -- the options have no id and no name in common
 abbrev pub Differs : CommandOption → CommandOption → Type 0
-Differs q o = (bytes_eq (id_of q) (id_of o) ≡ false) × (same_long (long_name o) (long_name q) ≡ false) × (same_short (short_name o) (short_name q) ≡ false)
+Differs q o =
+    (bytes_eq (id_of q) (id_of o) ≡ false) × (same_long (long_name o) (long_name q) ≡ false)
+    × (same_short (short_name o) (short_name q) ≡ false)
 
 -- they are one option, or differ
 abbrev pub Which : CommandOption → CommandOption → Type 0
@@ -70,7 +72,9 @@ option_found o = refl
 
 -- two options of one id, or of names that differ
 abbrev differ_test : CommandOption → CommandOption → Bool
-differ_test q o = bytes_eq (id_of q) (id_of o) || (not (same_long (long_name o) (long_name q)) && not (same_short (short_name o) (short_name q)))
+differ_test q o =
+    bytes_eq (id_of q) (id_of o)
+    || (not (same_long (long_name o) (long_name q)) && not (same_short (short_name o) (short_name q)))
 
 all_differ : list_all (λ q. list_all (differ_test q) every_option) every_option ≡ true
 all_differ = refl
@@ -86,11 +90,13 @@ not_parts false e = refl
 some_same : (q o : CommandOption) → Some q ≡ Some o → q ≡ o
 some_same q o e = cc
 
-found_passes : (f p : CommandOption → Bool) (os : List CommandOption) (o : CommandOption) → list_all f os ≡ true → find p os ≡ Some o → f o ≡ true
+found_passes : (f p : CommandOption → Bool) (os : List CommandOption) (o : CommandOption) → list_all f os ≡ true
+    → find p os ≡ Some o → f o ≡ true
 found_passes f p [] o all e = cc
 found_passes f p (x ∷ os) o all e = go (p x) (found_passes f p os o) (and_parts _ _ all) e
   where
-    go : (t : Bool) → (list_all f os ≡ true → find p os ≡ Some o → f o ≡ true) → (f x ≡ true) × (list_all f os ≡ true) → cond t (Some x) (find p os) ≡ Some o → f o ≡ true
+    go : (t : Bool) → (list_all f os ≡ true → find p os ≡ Some o → f o ≡ true) → (f x ≡ true) × (list_all f os ≡ true)
+        → cond t (Some x) (find p os) ≡ Some o → f o ≡ true
     go true later two e2 = subst (λ y. f y ≡ true) (some_same x o e2) two.0
     go false later two e2 = later two.1 e2
 
@@ -99,12 +105,15 @@ differ q o = go (bytes_eq (id_of q) (id_of o)) refl
     (found_passes (differ_test q) (λ x. bytes_eq (id_of x) (id_of o)) every_option o
     (found_passes (λ x. list_all (differ_test x) every_option) (λ x. bytes_eq (id_of x) (id_of q)) every_option q all_differ (option_found q)) (option_found o))
   where
-    go : (t : Bool) → bytes_eq (id_of q) (id_of o) ≡ t → (t || (not (same_long (long_name o) (long_name q)) && not (same_short (short_name o) (short_name q)))) ≡ true → (q ≡ o) ⊎ Differs q o
+    go : (t : Bool) → bytes_eq (id_of q) (id_of o) ≡ t
+        → (t || (not (same_long (long_name o) (long_name q)) && not (same_short (short_name o) (short_name q)))) ≡ true
+        → (q ≡ o) ⊎ Differs q o
     go true e test = inl (some_same q o
         (sym (option_found q) ∙ ap (λ t. find (λ x. bytes_eq (id_of x) t) every_option) ((bytes_eq-Decides (id_of q) (id_of o)).0 e) ∙ option_found o))
     go false e test = let two = and_parts _ _ test in inr (e, not_parts _ two.0, not_parts _ two.1)
 
-pub longs_differ : (x y : Option Text) (name : Text) → same_long x y ≡ false → option_map_or (λ s. bytes_eq s name) y false ≡ true
+pub longs_differ : (x y : Option Text) (name : Text) → same_long x y ≡ false
+    → option_map_or (λ s. bytes_eq s name) y false ≡ true
     → option_map_or (λ s. bytes_eq s name) x false ≡ false
 longs_differ None y name d e = refl
 longs_differ (Some a) None name d e = absurd (true≢false (sym e))
@@ -157,7 +166,8 @@ pub data Written (q : CommandOption) : Text → List Text → Type 0 where
   by_value : (v : Text) → is_flag q ≡ false → Written q v (v ∷ [])
   by_flag : is_flag q ≡ true → Written q (codes "true") []
 
-pub written_used : (q : CommandOption) (v : Text) (vs : List Text) → Written q v vs → (rs : List Row) → used (done_rule q) vs rs ≡ used (done_rule q) (v ∷ []) rs
+pub written_used : (q : CommandOption) (v : Text) (vs : List Text) → Written q v vs → (rs : List Row)
+    → used (done_rule q) vs rs ≡ used (done_rule q) (v ∷ []) rs
 written_used q _ _ (by_value v takes) rs = refl
 written_used q _ _ (by_flag flag) rs = ap (λ b. used (rule_as b q) [] rs) flag
 
@@ -171,17 +181,20 @@ done_rules os = map done_rule os ++ help_done ∷ []
 
 -- what a search among them finds
 pub data FoundIn (p : Rule → Bool) (c : List Rule) : Option Rule → Type 0 where
-  at_option : (q : CommandOption) → p (done_rule q) ≡ true → arg_by_id c (id_of q) ≡ Some (done_rule q) → FoundIn p c (Some (done_rule q))
+  at_option : (q : CommandOption) → p (done_rule q) ≡ true → arg_by_id c (id_of q) ≡ Some (done_rule q)
+      → FoundIn p c (Some (done_rule q))
   at_help : FoundIn p c (Some help_done)
   nowhere : FoundIn p c None
 
-id_later : (x q : CommandOption) (c : List Rule) → Which x q → arg_by_id c (id_of q) ≡ Some (done_rule q) → arg_by_id (done_rule x ∷ c) (id_of q) ≡ Some (done_rule q)
+id_later : (x q : CommandOption) (c : List Rule) → Which x q → arg_by_id c (id_of q) ≡ Some (done_rule q)
+    → arg_by_id (done_rule x ∷ c) (id_of q) ≡ Some (done_rule q)
 id_later x q c (inl same) by_id =
     ap (λ y. cond (bytes_eq (id_of y) (id_of q)) (Some (done_rule y)) (arg_by_id c (id_of q))) same
     ∙ ap (λ b. cond b (Some (done_rule q)) (arg_by_id c (id_of q))) (bytes_same (id_of q))
 id_later x q c (inr d) by_id = ap (λ b. cond b (Some (done_rule x)) (arg_by_id c (id_of q))) d.0 ∙ by_id
 
-found_later : (p : Rule → Bool) (x : CommandOption) (c : List Rule) (r : Option Rule) → FoundIn p c r → FoundIn p (done_rule x ∷ c) r
+found_later : (p : Rule → Bool) (x : CommandOption) (c : List Rule) (r : Option Rule) → FoundIn p c r
+    → FoundIn p (done_rule x ∷ c) r
 found_later p x c r (at_option q hit by_id) = at_option q hit (id_later x q c (differ x q) by_id)
 found_later p x c r at_help = at_help
 found_later p x c r nowhere = nowhere
@@ -190,9 +203,11 @@ found_help : (p : Rule → Bool) (b : Bool) → FoundIn p (help_done ∷ []) (co
 found_help p true = at_help
 found_help p false = nowhere
 
-found_step : (p : Rule → Bool) (x : CommandOption) (c : List Rule) (r : Option Rule) → FoundIn p c r → (b : Bool) → p (done_rule x) ≡ b
+found_step : (p : Rule → Bool) (x : CommandOption) (c : List Rule) (r : Option Rule) → FoundIn p c r → (b : Bool)
+    → p (done_rule x) ≡ b
     → FoundIn p (done_rule x ∷ c) (cond b (Some (done_rule x)) r)
-found_step p x c r later true e = at_option x e (ap (λ b. cond b (Some (done_rule x)) (arg_by_id c (id_of x))) (bytes_same (id_of x)))
+found_step p x c r later true e =
+    at_option x e (ap (λ b. cond b (Some (done_rule x)) (arg_by_id c (id_of x))) (bytes_same (id_of x)))
 found_step p x c r later false e = found_later p x c r later
 
 found : (p : Rule → Bool) (os : List CommandOption) → FoundIn p (done_rules os) (find p (done_rules os))
@@ -207,13 +222,22 @@ no_position i (x ∷ os) = no_position i os
 
 -- the entry of the option with this value
 abbrev pub row_of_option : CommandOption → Text → Row
-row_of_option o v = record { id = id_of o; values = v ∷ []; count = None; source = Some CommandLine; reading = reading_by (done_rule o) }
+row_of_option o v =
+    record {
+      id = id_of o;
+      values = v ∷ [];
+      count = None;
+      source = Some CommandLine;
+      reading = reading_by (done_rule o);
+    }
 
-pub added : (id : Text) (change : Row → List Row) (missing : List Row) (rs : List Row) → has_row id rs ≡ false → at_row id change missing rs ≡ rs ++ missing
+pub added : (id : Text) (change : Row → List Row) (missing : List Row) (rs : List Row) → has_row id rs ≡ false
+    → at_row id change missing rs ≡ rs ++ missing
 added id change missing [] e = refl
 added id change missing (r ∷ rs) e = go (at_row id change missing rs) (added id change missing rs) (bytes_eq r.id id) e
   where
-    go : (later : List Row) → (has_row id rs ≡ false → later ≡ rs ++ missing) → (b : Bool) → (b || has_row id rs) ≡ false → cond b (change r ++ rs) (r ∷ later) ≡ r ∷ (rs ++ missing)
+    go : (later : List Row) → (has_row id rs ≡ false → later ≡ rs ++ missing) → (b : Bool)
+        → (b || has_row id rs) ≡ false → cond b (change r ++ rs) (r ∷ later) ≡ r ∷ (rs ++ missing)
     go later h true e2 = absurd (true≢false e2)
     go later h false e2 = ap (λ t. r ∷ t) (h e2)
 
@@ -221,13 +245,15 @@ pub append_none : {X : Type 0} (xs : List X) → xs ++ [] ≡ xs
 append_none [] = refl
 append_none (x ∷ xs) = ap (λ t. x ∷ t) (append_none xs)
 
-pub used_fresh : (q : CommandOption) (v : Text) (rs : List Row) → has_row (id_of q) rs ≡ false → used (done_rule q) (v ∷ []) rs ≡ rs ++ row_of_option q v ∷ []
+pub used_fresh : (q : CommandOption) (v : Text) (rs : List Row) → has_row (id_of q) rs ≡ false
+    → used (done_rule q) (v ∷ []) rs ≡ rs ++ row_of_option q v ∷ []
 used_fresh q v rs e =
     let gone : without (id_of q) rs ≡ rs = added (id_of q) (λ _. []) [] rs e ∙ append_none rs in
     ap (with_values (id_of q) (reading_by (done_rule q)) CommandLine (v ∷ [])) gone
     ∙ added (id_of q) (more_values CommandLine (v ∷ [])) (row_of_option q v ∷ []) rs e
 
-pub find_added : {X : Type 0} (p : X → Bool) (xs : List X) (x : X) → find p (xs ++ x ∷ []) ≡ option_or (find p xs) (cond (p x) (Some x) None)
+pub find_added : {X : Type 0} (p : X → Bool) (xs : List X) (x : X)
+    → find p (xs ++ x ∷ []) ≡ option_or (find p xs) (cond (p x) (Some x) None)
 find_added p [] x = refl
 find_added {X = X} p (y ∷ xs) x = go (find p (xs ++ x ∷ [])) (find_added p xs x) (p y)
   where
@@ -240,7 +266,8 @@ none_found : (id : Text) (rs : List Row) → has_row id rs ≡ false → find (�
 none_found id [] e = refl
 none_found id (r ∷ rs) e = go (find (λ x. bytes_eq x.id id) rs) (none_found id rs) (bytes_eq r.id id) e
   where
-    go : (later : Option Row) → (has_row id rs ≡ false → later ≡ None) → (b : Bool) → (b || has_row id rs) ≡ false → cond b (Some r) later ≡ None
+    go : (later : Option Row) → (has_row id rs ≡ false → later ≡ None) → (b : Bool) → (b || has_row id rs) ≡ false
+        → cond b (Some r) later ≡ None
     go later h true e2 = absurd (true≢false e2)
     go later h false e2 = h e2
 
@@ -260,36 +287,49 @@ abbrev pub mine : {X : Type 0} {q o : CommandOption} → Which q o → X → Opt
 mine (inl same) x = Some x
 mine (inr d) x = None
 
-pub use_splits : (q : CommandOption) (v : Text) (vs : List Text) → Written q v vs → (rs : List Row) → use_fault false (done_rule q) vs rs ≡ []
+pub use_splits : (q : CommandOption) (v : Text) (vs : List Text) → Written q v vs → (rs : List Row)
+    → use_fault false (done_rule q) vs rs ≡ []
     → (has_row (id_of q) rs ≡ false) × (accepts false (parser_done q) v ≡ true)
 use_splits q text vs written rs e = split text vs written e
   where
-    go : (v : Text) (a b : Bool) → or_else (cond (a && true) (kind.ArgumentConflict ∷ []) []) (or_else (cond b [] (refused_kind (parser_done q) ∷ [])) []) ≡ [] → (a ≡ false) × (b ≡ true)
+    go : (v : Text) (a b : Bool)
+        → or_else (cond (a && true) (kind.ArgumentConflict ∷ []) [])
+        (or_else (cond b [] (refused_kind (parser_done q) ∷ [])) [])
+        ≡ []
+        → (a ≡ false) × (b ≡ true)
     go v true b e2 = cc
     go v false true e2 = (refl, refl)
     go v false false e2 = cc
 
-    split : (v : Text) (ws : List Text) → Written q v ws → use_fault false (done_rule q) ws rs ≡ [] → (has_row (id_of q) rs ≡ false) × (accepts false (parser_done q) v ≡ true)
+    split : (v : Text) (ws : List Text) → Written q v ws → use_fault false (done_rule q) ws rs ≡ []
+        → (has_row (id_of q) rs ≡ false) × (accepts false (parser_done q) v ≡ true)
     split _ _ (by_value v takes) f =
-        go v (has_row (id_of q) rs) (accepts false (parser_done q) v) (subst (λ b. use_fault false (rule_as b q) (v ∷ []) rs ≡ []) takes f)
+        go v (has_row (id_of q) rs) (accepts false (parser_done q) v)
+        (subst (λ b. use_fault false (rule_as b q) (v ∷ []) rs ≡ []) takes f)
     split _ _ (by_flag flag) f =
-        go (codes "true") (has_row (id_of q) rs) (accepts false (parser_done q) (codes "true")) (subst (λ b. use_fault false (rule_as b q) [] rs ≡ []) flag f)
+        go (codes "true") (has_row (id_of q) rs) (accepts false (parser_done q) (codes "true"))
+        (subst (λ b. use_fault false (rule_as b q) [] rs ≡ []) flag f)
 
-grown : (o q : CommandOption) (v : Text) (vs : List Text) → Written q v vs → (rs : List Row) → use_fault false (done_rule q) vs rs ≡ []
+grown : (o q : CommandOption) (v : Text) (vs : List Text) → Written q v vs → (rs : List Row)
+    → use_fault false (done_rule q) vs rs ≡ []
     → find (λ r. bytes_eq r.id (id_of o)) (used (done_rule q) vs rs)
-    ≡ option_or (find (λ r. bytes_eq r.id (id_of o)) rs) (cond (bytes_eq (id_of q) (id_of o)) (Some (row_of_option q v)) None)
+    ≡ option_or (find (λ r. bytes_eq r.id (id_of o)) rs)
+    (cond (bytes_eq (id_of q) (id_of o)) (Some (row_of_option q v)) None)
 grown o q v vs written rs e =
-    ap (find (λ (r : Row). bytes_eq r.id (id_of o))) (written_used q v vs written rs ∙ used_fresh q v rs (use_splits q v vs written rs e).0)
+    ap (find (λ (r : Row). bytes_eq r.id (id_of o)))
+    (written_used q v vs written rs ∙ used_fresh q v rs (use_splits q v vs written rs e).0)
     ∙ find_added (λ (r : Row). bytes_eq r.id (id_of o)) rs (row_of_option q v)
 
-same_row : (o q : CommandOption) (v : Text) → q ≡ o → cond (bytes_eq (id_of q) (id_of o)) (Some (row_of_option q v)) None ≡ Some (row_of_option o v)
+same_row : (o q : CommandOption) (v : Text) → q ≡ o
+    → cond (bytes_eq (id_of q) (id_of o)) (Some (row_of_option q v)) None ≡ Some (row_of_option o v)
 same_row o q v same = ap (λ x. cond (bytes_eq (id_of x) (id_of o)) (Some (row_of_option x v)) None) same
     ∙ ap (λ b. cond b (Some (row_of_option o v)) None) (bytes_same (id_of o))
 
 pub some_none : {X : Type 0} (x : X) → Some x ≡ None → ⊥
 some_none x e = cc
 
-pub use_holds : (o q : CommandOption) (d : Which q o) (v : Text) (vs : List Text) → Written q v vs → (rs : List Row) (s : Option Text) → Holds o rs s
+pub use_holds : (o q : CommandOption) (d : Which q o) (v : Text) (vs : List Text) → Written q v vs
+    → (rs : List Row) (s : Option Text) → Holds o rs s
     → use_fault false (done_rule q) vs rs ≡ [] → Holds o (used (done_rule q) vs rs) (option_or s (mine d v))
 use_holds o q (inl same) v vs written rs None h e = (
   grown o q v vs written rs e ∙ ap₂ option_or h.0 (same_row o q v same),
@@ -321,49 +361,65 @@ pub unnamed : (o : CommandOption) (word : Text) → spelled o word ≡ None → 
 unnamed o word e = ap (with_true (is_flag o)) e ∙ true_none (is_flag o)
 
 -- a word that names q, which is no flag, has for o what it has
-pub value_is : (o q : CommandOption) (d : Which q o) (word : Text) (v : Option Text) → is_flag q ≡ false → spelled o word ≡ mine d v → named o word ≡ mine d v
-value_is o q (inl same) word v takes e = ap (with_true (is_flag o)) e ∙ ap (λ b. with_true b (Some v)) (sym (ap is_flag same) ∙ takes)
+pub value_is : (o q : CommandOption) (d : Which q o) (word : Text) (v : Option Text) → is_flag q ≡ false
+    → spelled o word ≡ mine d v → named o word ≡ mine d v
+value_is o q (inl same) word v takes e =
+    ap (with_true (is_flag o)) e ∙ ap (λ b. with_true b (Some v)) (sym (ap is_flag same) ∙ takes)
 value_is o q (inr d) word v takes e = unnamed o word e
 
 -- a word that names the flag q alone gives it the text `true`
-pub flag_is : (o q : CommandOption) (d : Which q o) (word : Text) → is_flag q ≡ true → spelled o word ≡ mine d None → named o word ≡ mine d (Some (codes "true"))
-flag_is o q (inl same) word flag e = ap (with_true (is_flag o)) e ∙ ap (λ b. with_true b (Some None)) (sym (ap is_flag same) ∙ flag)
+pub flag_is : (o q : CommandOption) (d : Which q o) (word : Text) → is_flag q ≡ true → spelled o word ≡ mine d None
+    → named o word ≡ mine d (Some (codes "true"))
+flag_is o q (inl same) word flag e =
+    ap (with_true (is_flag o)) e ∙ ap (λ b. with_true b (Some None)) (sym (ap is_flag same) ∙ flag)
 flag_is o q (inr d) word flag e = unnamed o word e
 
 -- what one word does: it names an option, with a value or alone, or ends the options, or is none
 pub data Turn (os : List CommandOption) (o : CommandOption) (word : Text) (wt : Waiting) (h : Held) : Held × Step → Type 0 where
-  attached : (q : CommandOption) (v : Text) (vs : List Text) → Written q v vs → arg_by_id (done_rules os) (id_of q) ≡ Some (done_rule q)
-      → settle_fault (done_rules os) false h ≡ [] → use_fault false (done_rule q) vs (settled (done_rules os) h).rows ≡ [] → NamesIt o q word (Some v)
+  attached : (q : CommandOption) (v : Text) (vs : List Text) → Written q v vs
+      → arg_by_id (done_rules os) (id_of q) ≡ Some (done_rule q)
+      → settle_fault (done_rules os) false h ≡ []
+      → use_fault false (done_rule q) vs (settled (done_rules os) h).rows ≡ [] → NamesIt o q word (Some v)
       → Turn os o word wt h (reacted (done_rules os) (done_rule q) vs h, next idle)
-  alone : (q : CommandOption) → is_flag q ≡ false → arg_by_id (done_rules os) (id_of q) ≡ Some (done_rule q) → settle_fault (done_rules os) false h ≡ []
+  alone : (q : CommandOption) → is_flag q ≡ false → arg_by_id (done_rules os) (id_of q) ≡ Some (done_rule q)
+      → settle_fault (done_rules os) false h ≡ []
       → NamesIt o q word None
-      → Turn os o word wt h (record (settled (done_rules os) h) { pending = Some (id_of q, []) }, next (option (id_of q)))
+      → Turn os o word wt h
+      (record (settled (done_rules os) h) { pending = Some (id_of q, []) }, next (option (id_of q)))
   dashes : named o word ≡ None → Turn os o word wt h (h, trailing 1)
   other : named o word ≡ None → Turn os o word wt h (plain_word (done_rules os) wt word h)
 
 -- the option with the value attached, if any
-option_turn : (os : List CommandOption) (o : CommandOption) (word : Text) (wt : Waiting) (rows : List Row) (p : Option (Text × List Text)) (q : CommandOption) (v : Option Text)
-    → is_flag q ≡ false → arg_by_id (done_rules os) (id_of q) ≡ Some (done_rule q) → ((d : Which q o) → spelled o word ≡ mine d v)
+option_turn : (os : List CommandOption) (o : CommandOption) (word : Text) (wt : Waiting) (rows : List Row)
+    (p : Option (Text × List Text)) (q : CommandOption) (v : Option Text)
+    → is_flag q ≡ false → arg_by_id (done_rules os) (id_of q) ≡ Some (done_rule q)
+    → ((d : Which q o) → spelled o word ≡ mine d v)
     → option_fault (done_rules os) false (done_rule q) v (idle_held rows p) ≡ []
     → Turn os o word wt (idle_held rows p) (after_flag (done_rules os) wt word
     (option_met (done_rules os) (done_rule q) v (idle_held rows p)).0 (option_met (done_rules os) (done_rule q) v (idle_held rows p)).1)
 option_turn os o word wt rows p q (Some v) takes by_id is e =
     let two = or_nil _ _ e in attached q v (v ∷ []) (by_value v takes) by_id two.0 two.1 (λ d. value_is o q d word (Some v) takes (is d))
-option_turn os o word wt rows p q None takes by_id is e = alone q takes by_id e (λ d. value_is o q d word None takes (is d))
+option_turn os o word wt rows p q None takes by_id is e =
+    alone q takes by_id e (λ d. value_is o q d word None takes (is d))
 
 -- the option by its long name, with the value attached, if any
-named_turn : (os : List CommandOption) (o : CommandOption) (word : Text) (wt : Waiting) (rows : List Row) (p : Option (Text × List Text)) (q : CommandOption) (v : Option Text)
+named_turn : (os : List CommandOption) (o : CommandOption) (word : Text) (wt : Waiting) (rows : List Row)
+    (p : Option (Text × List Text)) (q : CommandOption) (v : Option Text)
     → arg_by_id (done_rules os) (id_of q) ≡ Some (done_rule q) → ((d : Which q o) → spelled o word ≡ mine d v)
     → long_fault (done_rules os) false (Some (done_rule q)) v (idle_held rows p) ≡ []
     → Turn os o word wt (idle_held rows p) (after_flag (done_rules os) wt word
     (long_met (done_rules os) (Some (done_rule q)) v (idle_held rows p)).0 (long_met (done_rules os) (Some (done_rule q)) v (idle_held rows p)).1)
-named_turn os o word wt rows p q given_value by_id named_it f = go (takes_values (done_rule q)) (flag_of q (takes_values (done_rule q)) refl) given_value named_it f
+named_turn os o word wt rows p q given_value by_id named_it f =
+    go (takes_values (done_rule q)) (flag_of q (takes_values (done_rule q)) refl) given_value named_it f
   where
     go : (t : Bool) → is_flag q ≡ not t → (v : Option Text) → ((d : Which q o) → spelled o word ≡ mine d v)
         → cond t (option_fault (done_rules os) false (done_rule q) v (idle_held rows p))
-        (cond (is_some v) (kind.TooManyValues ∷ []) (react_fault (done_rules os) false (done_rule q) [] (idle_held rows p))) ≡ []
+        (cond (is_some v) (kind.TooManyValues ∷ [])
+        (react_fault (done_rules os) false (done_rule q) [] (idle_held rows p)))
+        ≡ []
         → Turn os o word wt (idle_held rows p) (after_flag (done_rules os) wt word
-        (cond t (option_met (done_rules os) (done_rule q) v (idle_held rows p)) (flag_met (done_rules os) (done_rule q) v (idle_held rows p))).0
+        (cond t (option_met (done_rules os) (done_rule q) v (idle_held rows p))
+        (flag_met (done_rules os) (done_rule q) v (idle_held rows p))).0
         (cond t (option_met (done_rules os) (done_rule q) v (idle_held rows p)) (flag_met (done_rules os) (done_rule q) v (idle_held rows p))).1)
     go true takes v is e = option_turn os o word wt rows p q v takes by_id is e
     go false flag (Some v) is e = absurd (cons_nil kind.TooManyValues [] e)
@@ -373,13 +429,19 @@ named_turn os o word wt rows p q given_value by_id named_it f = go (takes_values
 pub help_faults : (os : List CommandOption) (h : Held) → react_fault (done_rules os) false help_done [] h ≡ [] → ⊥
 help_faults os h e = cons_nil kind.DisplayHelp [] (or_nil (settle_fault (done_rules os) false h) _ e).1
 
-pub long_is : (o q : CommandOption) (d : Which q o) (word name : Text) (v : Option Text) → long_of word ≡ Some (name, v) → is_long q name ≡ true → spelled o word ≡ mine d v
+pub long_is : (o q : CommandOption) (d : Which q o) (word name : Text) (v : Option Text) → long_of word ≡ Some (
+  name,
+  v,
+) → is_long q name ≡ true → spelled o word ≡ mine d v
 long_is o q (inl same) word name v e hit =
-    ap (λ l. named_by o l (short_of word)) e ∙ ap (λ b. cond b (Some v) None) (subst (λ x. is_long x name ≡ true) same hit)
+    ap (λ l. named_by o l (short_of word)) e
+    ∙ ap (λ b. cond b (Some v) None) (subst (λ x. is_long x name ≡ true) same hit)
 long_is o q (inr d) word name v e hit =
-    ap (λ l. named_by o l (short_of word)) e ∙ ap (λ b. cond b (Some v) None) (longs_differ (long_name o) (long_name q) name d.1 hit)
+    ap (λ l. named_by o l (short_of word)) e
+    ∙ ap (λ b. cond b (Some v) None) (longs_differ (long_name o) (long_name q) name d.1 hit)
 
-long_turn : (os : List CommandOption) (o : CommandOption) (word : Text) (wt : Waiting) (rows : List Row) (p : Option (Text × List Text)) (name : Text) (v : Option Text) (r : Option Rule)
+long_turn : (os : List CommandOption) (o : CommandOption) (word : Text) (wt : Waiting) (rows : List Row)
+    (p : Option (Text × List Text)) (name : Text) (v : Option Text) (r : Option Rule)
     → FoundIn (λ a. not (is_some a.index) && has_long a name) (done_rules os) r → long_of word ≡ Some (name, v)
     → long_fault (done_rules os) false r v (idle_held rows p) ≡ []
     → Turn os o word wt (idle_held rows p) (after_flag (done_rules os) wt word
@@ -399,23 +461,30 @@ one_byte q = refl
 pub ascii_short : (q : CommandOption) (y : ℕ) → is_short q y ≡ true → length (encode_utf8 y) ≡ 1
 ascii_short q y e = go (short_name q) (one_byte q) e
   where
-    go : (s : Option ℕ) → option_map_or (λ c. length (encode_utf8 c) == 1) s true ≡ true → option_map_or (λ c. c == y) s false ≡ true → length (encode_utf8 y) ≡ 1
+    go : (s : Option ℕ) → option_map_or (λ c. length (encode_utf8 c) == 1) s true ≡ true
+        → option_map_or (λ c. c == y) s false ≡ true → length (encode_utf8 y) ≡ 1
     go None one hit = absurd (true≢false (sym hit))
     go (Some c) one hit =
         let same : c ≡ y = grind arith in
         let is : length (encode_utf8 c) ≡ 1 = grind arith in
         ap (λ x. length (encode_utf8 x)) (sym same) ∙ is
 
-pub short_is : (o q : CommandOption) (d : Which q o) (word flags : Text) (y : ℕ) → long_of word ≡ None → short_of word ≡ Some flags → slice_get (chars flags) 0 ≡ Some y
+pub short_is : (o q : CommandOption) (d : Which q o) (word flags : Text) (y : ℕ) → long_of word ≡ None
+    → short_of word ≡ Some flags → slice_get (chars flags) 0 ≡ Some y
     → is_short q y ≡ true → spelled o word ≡ mine d (attached_value (drop (length (encode_utf8 y)) flags))
-short_is o q d word flags y no_long is_flags first hit = ap₂ (named_by o) no_long is_flags ∙ ap (by_short o flags) first ∙ go d
+short_is o q d word flags y no_long is_flags first hit =
+    ap₂ (named_by o) no_long is_flags ∙ ap (by_short o flags) first ∙ go d
   where
     one : attached_value (drop 1 flags) ≡ attached_value (drop (length (encode_utf8 y)) flags)
     one = ap (λ n. attached_value (drop n flags)) (sym (ascii_short q y hit))
 
     go : (w : Which q o) → by_short o flags (Some y) ≡ mine w (attached_value (drop (length (encode_utf8 y)) flags))
-    go (inl same) = ap (λ b. cond b (Some (attached_value (drop 1 flags))) None) (subst (λ x. is_short x y ≡ true) same hit) ∙ ap (λ v. Some v) one
-    go (inr w) = ap (λ b. cond b (Some (attached_value (drop 1 flags))) None) (shorts_differ (short_name o) (short_name q) y w.2 hit)
+    go (inl same) =
+        ap (λ b. cond b (Some (attached_value (drop 1 flags))) None) (subst (λ x. is_short x y ≡ true) same hit)
+        ∙ ap (λ v. Some v) one
+    go (inr w) =
+        ap (λ b. cond b (Some (attached_value (drop 1 flags))) None)
+        (shorts_differ (short_name o) (short_name q) y w.2 hit)
 
 -- an option with a short name is no flag
 no_short_flag : (q : CommandOption) → (is_some (short_name q) && is_flag q) ≡ false
@@ -425,11 +494,13 @@ no_short_flag q = refl
 pub short_plain : (q : CommandOption) (y : ℕ) → is_short q y ≡ true → is_flag q ≡ false
 short_plain q y e = go (short_name q) (is_flag q) (no_short_flag q) e
   where
-    go : (s : Option ℕ) (flag : Bool) → (is_some s && flag) ≡ false → option_map_or (λ c. c == y) s false ≡ true → flag ≡ false
+    go : (s : Option ℕ) (flag : Bool) → (is_some s && flag) ≡ false → option_map_or (λ c. c == y) s false ≡ true
+        → flag ≡ false
     go None flag apart hit = absurd (true≢false (sym hit))
     go (Some c) flag apart hit = apart
 
-short_turn : (os : List CommandOption) (o : CommandOption) (word : Text) (wt : Waiting) (rows : List Row) (p : Option (Text × List Text)) (flags : Text) (y : ℕ) (r : Option Rule)
+short_turn : (os : List CommandOption) (o : CommandOption) (word : Text) (wt : Waiting) (rows : List Row)
+    (p : Option (Text × List Text)) (flags : Text) (y : ℕ) (r : Option Rule)
     (nf : Held → Kinds) (nm : Held → Held × Outcome)
     → FoundIn (λ a. not (is_some a.index) && has_short a y) (done_rules os) r
     → long_of word ≡ None → short_of word ≡ Some flags → slice_get (chars flags) 0 ≡ Some y
@@ -448,27 +519,39 @@ short_turn os o word wt rows p flags y _ nf nm (at_option q hit by_id) no_long i
     rest : Text
     rest = drop (length (encode_utf8 y)) flags
 
-    go : (t : Bool) → t ≡ true → cond t (option_fault (done_rules os) false (done_rule q) (attached_value rest) (idle_held rows p))
-        (or_else (react_fault (done_rules os) false (done_rule q) [] (idle_held rows p)) (nf (reacted (done_rules os) (done_rule q) [] (idle_held rows p)))) ≡ []
+    go : (t : Bool) → t ≡ true
+        → cond t (option_fault (done_rules os) false (done_rule q) (attached_value rest) (idle_held rows p))
+        (or_else (react_fault (done_rules os) false (done_rule q) [] (idle_held rows p))
+        (nf (reacted (done_rules os) (done_rule q) [] (idle_held rows p))))
+        ≡ []
         → Turn os o word wt (idle_held rows p) (after_flag (done_rules os) wt word
-        (cond t (option_met (done_rules os) (done_rule q) (attached_value rest) (idle_held rows p)) (nm (reacted (done_rules os) (done_rule q) [] (idle_held rows p)))).0
+        (cond t (option_met (done_rules os) (done_rule q) (attached_value rest) (idle_held rows p))
+        (nm (reacted (done_rules os) (done_rule q) [] (idle_held rows p)))).0
         (cond t (option_met (done_rules os) (done_rule q) (attached_value rest) (idle_held rows p)) (nm (reacted (done_rules os) (done_rule q) [] (idle_held rows p)))).1)
-    go true e fine = option_turn os o word wt rows p q (attached_value rest) plain_option by_id (λ d. short_is o q d word flags y no_long is_flags first named_q) fine
+    go true e fine =
+        option_turn os o word wt rows p q (attached_value rest) plain_option by_id
+        (λ d. short_is o q d word flags y no_long is_flags first named_q) fine
     go false e fine = absurd (true≢false (sym e))
-short_turn os o word wt rows p flags y _ nf nm at_help no_long is_flags first f = absurd (help_faults os (idle_held rows p) (or_nil _ _ f).0)
-short_turn os o word wt rows p flags y _ nf nm nowhere no_long is_flags first f = absurd (cons_nil kind.UnknownArgument [] f)
+short_turn os o word wt rows p flags y _ nf nm at_help no_long is_flags first f =
+    absurd (help_faults os (idle_held rows p) (or_nil _ _ f).0)
+short_turn os o word wt rows p flags y _ nf nm nowhere no_long is_flags first f =
+    absurd (cons_nil kind.UnknownArgument [] f)
 
-head_turn : (os : List CommandOption) (o : CommandOption) (word : Text) (wt : Waiting) (rows : List Row) (p : Option (Text × List Text)) (flags : Text) (y : Option ℕ)
+head_turn : (os : List CommandOption) (o : CommandOption) (word : Text) (wt : Waiting) (rows : List Row)
+    (p : Option (Text × List Text)) (flags : Text) (y : Option ℕ)
     (nf : Text → ℕ → Held → Kinds) (nm : Text → ℕ → Outcome → Held → Held × Outcome)
     → long_of word ≡ None → short_of word ≡ Some flags → slice_get (chars flags) 0 ≡ y
     → bundle_step_fault (done_rules os) false y flags 0 (idle_held rows p) nf ≡ []
     → Turn os o word wt (idle_held rows p) (after_flag (done_rules os) wt word
     (bundle_step (done_rules os) y flags 0 plain (idle_held rows p) nm).0 (bundle_step (done_rules os) y flags 0 plain (idle_held rows p) nm).1)
-head_turn os o word wt rows p flags None nf nm no_long is_flags first f = other (unnamed o word (ap₂ (named_by o) no_long is_flags ∙ ap (by_short o flags) first))
+head_turn os o word wt rows p flags None nf nm no_long is_flags first f =
+    other (unnamed o word (ap₂ (named_by o) no_long is_flags ∙ ap (by_short o flags) first))
 head_turn os o word wt rows p flags (Some y) nf nm no_long is_flags first f =
-    short_turn os o word wt rows p flags y (arg_by_short (done_rules os) y) _ _ (found (λ a. not (is_some a.index) && has_short a y) os) no_long is_flags first f
+    short_turn os o word wt rows p flags y (arg_by_short (done_rules os) y) _ _
+    (found (λ a. not (is_some a.index) && has_short a y) os) no_long is_flags first f
 
-bundle_turn : (os : List CommandOption) (o : CommandOption) (word : Text) (wt : Waiting) (rows : List Row) (p : Option (Text × List Text)) (flags : Text)
+bundle_turn : (os : List CommandOption) (o : CommandOption) (word : Text) (wt : Waiting) (rows : List Row)
+    (p : Option (Text × List Text)) (flags : Text)
     → long_of word ≡ None → short_of word ≡ Some flags
     → flags_fault (done_rules os) false (length flags) flags 0 (idle_held rows p) ≡ []
     → Turn os o word wt (idle_held rows p) (after_flag (done_rules os) wt word
@@ -478,24 +561,32 @@ bundle_turn os o word wt rows p [] no_long is_flags f = other (unnamed o word (a
 bundle_turn os o word wt rows p (x ∷ xs) no_long is_flags f =
     head_turn os o word wt rows p (x ∷ xs) (slice_get (chars (x ∷ xs)) 0) _ _ no_long is_flags refl f
 
-short_or_turn : (os : List CommandOption) (o : CommandOption) (word : Text) (wt : Waiting) (rows : List Row) (p : Option (Text × List Text)) (sh : Option Text)
+short_or_turn : (os : List CommandOption) (o : CommandOption) (word : Text) (wt : Waiting) (rows : List Row)
+    (p : Option (Text × List Text)) (sh : Option Text)
     → long_of word ≡ None → short_of word ≡ sh
     → option_map_or (λ flags. bundle_fault (done_rules os) false flags (idle_held rows p)) sh [] ≡ []
     → Turn os o word wt (idle_held rows p) (short_or_plain (done_rules os) wt word sh (idle_held rows p))
 short_or_turn os o word wt rows p None no_long is_flags f = other (unnamed o word (ap₂ (named_by o) no_long is_flags))
-short_or_turn os o word wt rows p (Some flags) no_long is_flags f = bundle_turn os o word wt rows p flags no_long is_flags f
+short_or_turn os o word wt rows p (Some flags) no_long is_flags f =
+    bundle_turn os o word wt rows p flags no_long is_flags f
 
-flag_turn : (os : List CommandOption) (o : CommandOption) (word : Text) (wt : Waiting) (rows : List Row) (p : Option (Text × List Text)) (l : Option (Text × Option Text))
+flag_turn : (os : List CommandOption) (o : CommandOption) (word : Text) (wt : Waiting) (rows : List Row)
+    (p : Option (Text × List Text)) (l : Option (Text × Option Text))
     → long_of word ≡ l → flag_word_fault (done_rules os) false l word (idle_held rows p) ≡ []
     → Turn os o word wt (idle_held rows p) (long_or_other (done_rules os) wt word l (idle_held rows p))
 flag_turn os o word wt rows p (Some (name, v)) e f =
-    long_turn os o word wt rows p name v (arg_by_long (done_rules os) name) (found (λ a. not (is_some a.index) && has_long a name) os) e f
+    long_turn os o word wt rows p name v (arg_by_long (done_rules os) name)
+    (found (λ a. not (is_some a.index) && has_long a name) os) e f
 flag_turn os o word wt rows p None e f = short_or_turn os o word wt rows p (short_of word) e refl f
 
-pub dash_turn : (os : List CommandOption) (o : CommandOption) (word : Text) (wt : Waiting) (rows : List Row) (p : Option (Text × List Text)) (b : Bool)
-    → bytes_eq word (45 ∷ 45 ∷ []) ≡ b → cond b [] (flag_word_fault (done_rules os) false (long_of word) word (idle_held rows p)) ≡ []
-    → Turn os o word wt (idle_held rows p) (cond b (idle_held rows p, trailing 1) (long_or_other (done_rules os) wt word (long_of word) (idle_held rows p)))
-dash_turn os o word wt rows p true e f = dashes (unnamed o word (ap (spelled o) ((bytes_eq-Decides word (45 ∷ 45 ∷ [])).0 e)))
+pub dash_turn : (os : List CommandOption) (o : CommandOption) (word : Text) (wt : Waiting) (rows : List Row)
+    (p : Option (Text × List Text)) (b : Bool)
+    → bytes_eq word (45 ∷ 45 ∷ []) ≡ b
+    → cond b [] (flag_word_fault (done_rules os) false (long_of word) word (idle_held rows p)) ≡ []
+    → Turn os o word wt (idle_held rows p) (cond b (idle_held rows p, trailing 1)
+    (long_or_other (done_rules os) wt word (long_of word) (idle_held rows p)))
+dash_turn os o word wt rows p true e f =
+    dashes (unnamed o word (ap (spelled o) ((bytes_eq-Decides word (45 ∷ 45 ∷ [])).0 e)))
 dash_turn os o word wt rows p false e f = flag_turn os o word wt rows p (long_of word) refl f
 
 -- ---- the walk
@@ -508,12 +599,15 @@ leaf_done name os = record (new_shape name) { rules = done_rules os; disable_hel
 abbrev pub at_word : Held → Waiting → Walk
 at_word h wt = record { held = h; waiting = wt; position = 1; is_trailing = false; stopped = None }
 
-word_turn : (name : Text) (os : List CommandOption) (o : CommandOption) (word : Text) (wt : Waiting) (rows : List Row) (p : Option (Text × List Text))
+word_turn : (name : Text) (os : List CommandOption) (o : CommandOption) (word : Text) (wt : Waiting) (rows : List Row)
+    (p : Option (Text × List Text))
     → word_fault (leaf_done name os) [] false wt word (idle_held rows p) ≡ []
     → Turn os o word wt (idle_held rows p) (word_met (done_rules os) [] false wt 1 word (idle_held rows p))
 word_turn name os o word idle rows p f = dash_turn os o word idle rows p (bytes_eq word (45 ∷ 45 ∷ [])) refl f
-word_turn name os o word (option id) rows p f = dash_turn os o word (option id) rows p (bytes_eq word (45 ∷ 45 ∷ [])) refl f
-word_turn name os o word positional rows p f = dash_turn os o word positional rows p (bytes_eq word (45 ∷ 45 ∷ [])) refl f
+word_turn name os o word (option id) rows p f =
+    dash_turn os o word (option id) rows p (bytes_eq word (45 ∷ 45 ∷ [])) refl f
+word_turn name os o word positional rows p f =
+    dash_turn os o word positional rows p (bytes_eq word (45 ∷ 45 ∷ [])) refl f
 
 -- what is held after the words
 abbrev pub walk_end : List CommandOption → Walk → List Text → Held
@@ -521,41 +615,48 @@ walk_end os w words = (fold (walked (done_rules os) []) w words).held
 
 -- where no step fails from here on, the entry of the option has this value at the end
 abbrev pub Ends : Text → List CommandOption → CommandOption → Walk → List Text → Option Text → Type 0
-Ends name os o w words s = walk_fault (leaf_done name os) [] w words ≡ [] → settle_fault (done_rules os) false (walk_end os w words) ≡ []
+Ends name os o w words s =
+    walk_fault (leaf_done name os) [] w words ≡ [] → settle_fault (done_rules os) false (walk_end os w words) ≡ []
     → Holds o (settled (done_rules os) (walk_end os w words)).rows s
 
 -- what the words give where no option waits for its value
 abbrev pub Idle : Text → List CommandOption → CommandOption → List Text → Type 0
 Idle name os o words = (rows : List Row) (p : Option (Text × List Text)) (s : Option Text)
-    → (settle_fault (done_rules os) false (idle_held rows p) ≡ [] → Holds o (settled (done_rules os) (idle_held rows p)).rows s)
+    → (settle_fault (done_rules os) false (idle_held rows p) ≡ []
+    → Holds o (settled (done_rules os) (idle_held rows p)).rows s)
     → Ends name os o (at_word (idle_held rows p) idle) words (option_or s (given o words))
 
 -- what the words give where an option waits for its value
 abbrev pub Waits : Text → List CommandOption → CommandOption → List Text → Type 0
 Waits name os o words = (rows : List Row) (q : CommandOption) (d : Which q o) (s : Option Text)
     → is_flag q ≡ false → arg_by_id (done_rules os) (id_of q) ≡ Some (done_rule q) → Holds o rows s
-    → Ends name os o (at_word (idle_held rows (Some (id_of q, []))) (option (id_of q))) words (option_or s (given_by (mine d None) words (given o words)))
+    → Ends name os o (at_word (idle_held rows (Some (id_of q, []))) (option (id_of q))) words
+    (option_or s (given_by (mine d None) words (given o words)))
 
 pub some_first : {X : Type 0} (s : Option X) → option_or s None ≡ s
 some_first None = refl
 some_first (Some x) = refl
 
 -- an option with no value fails
-no_value : (os : List CommandOption) (q : CommandOption) (rows : List Row) → is_flag q ≡ false → arg_by_id (done_rules os) (id_of q) ≡ Some (done_rule q)
+no_value : (os : List CommandOption) (q : CommandOption) (rows : List Row) → is_flag q ≡ false
+    → arg_by_id (done_rules os) (id_of q) ≡ Some (done_rule q)
     → settle_fault (done_rules os) false (idle_held rows (Some (id_of q, []))) ≡ [] → ⊥
 no_value os q rows takes by_id e = cons_nil kind.InvalidValue []
-    (subst (λ b. use_fault false (rule_as b q) [] rows ≡ []) takes (sym (ap (λ r. option_map_or (λ a. use_fault false a [] rows) r []) by_id) ∙ e))
+    (subst (λ b. use_fault false (rule_as b q) [] rows ≡ []) takes
+    (sym (ap (λ r. option_map_or (λ a. use_fault false a [] rows) r []) by_id) ∙ e))
 
 stray : (name : Text) (os : List CommandOption) (h : Held) → step_fault (leaf_done name os) 1 h value ≡ [] → ⊥
 stray name os h e = cons_nil kind.UnknownArgument []
-    (sym (ap (λ r. option_map_or (λ a. positional_fault (done_rules os) false a h) r (kind.UnknownArgument ∷ [])) (no_position 1 os)) ∙ e)
+    (sym (ap (λ r. option_map_or (λ a. positional_fault (done_rules os) false a h) r (kind.UnknownArgument ∷ []))
+    (no_position 1 os)) ∙ e)
 
 trailing_ends : (name : Text) (os : List CommandOption) (h : Held) (wt : Waiting) (word : Text) (rest : List Text)
     → walk_fault (leaf_done name os) [] (record (at_word h wt) { is_trailing = true }) (word ∷ rest) ≡ [] → ⊥
 unfolding walk_fault
 trailing_ends name os h wt word rest f = stray name os h (or_nil _ _ f).0
 
-attached_same : (s : Option Text) (o q : CommandOption) (d : Which q o) (v : Text) (rest : List Text) (later : Option Text)
+attached_same : (s : Option Text) (o q : CommandOption) (d : Which q o) (v : Text) (rest : List Text)
+    (later : Option Text)
     → option_or (option_or s (mine d v)) later ≡ option_or s (given_by (mine d (Some v)) rest later)
 attached_same None o q (inl same) v rest later = refl
 attached_same (Some t) o q (inl same) v rest later = refl
@@ -569,78 +670,108 @@ value_same (Some t) o q (inl same) v rest later = refl
 value_same None o q (inr d) v rest later = refl
 value_same (Some t) o q (inr d) v rest later = refl
 
-idle_took : (name : Text) (os : List CommandOption) (o : CommandOption) (word : Text) (rest : List Text) → Idle name os o rest → Waits name os o rest
+idle_took : (name : Text) (os : List CommandOption) (o : CommandOption) (word : Text) (rest : List Text)
+    → Idle name os o rest → Waits name os o rest
     → (rows : List Row) (p : Option (Text × List Text)) (s : Option Text)
-    → (settle_fault (done_rules os) false (idle_held rows p) ≡ [] → Holds o (settled (done_rules os) (idle_held rows p)).rows s)
+    → (settle_fault (done_rules os) false (idle_held rows p) ≡ []
+    → Holds o (settled (done_rules os) (idle_held rows p)).rows s)
     → (m : Held × Step) → Turn os o word idle (idle_held rows p) m → step_fault (leaf_done name os) 1 m.0 m.1 ≡ []
-    → Ends name os o (after_step (done_rules os) word (at_word (idle_held rows p) idle) m.0 m.1) rest (option_or s (given o (word ∷ rest)))
+    → Ends name os o (after_step (done_rules os) word (at_word (idle_held rows p) idle) m.0 m.1) rest
+    (option_or s (given o (word ∷ rest)))
 idle_took name os o word rest i w rows p s ready _ (attached q v vs written by_id settles uses is) step f e =
     let d = differ q o in
-    subst (λ x. Holds o (settled (done_rules os) (walk_end os (at_word (reacted (done_rules os) (done_rule q) vs (idle_held rows p)) idle) rest)).rows x)
+    subst (λ x. Holds o (settled (done_rules os)
+    (walk_end os (at_word (reacted (done_rules os) (done_rule q) vs (idle_held rows p)) idle) rest)).rows x)
     (attached_same s o q d v rest (given o rest) ∙ ap (λ n. option_or s (given_by n rest (given o rest))) (sym (is d)))
     (i _ None (option_or s (mine d v)) (λ _. use_holds o q d v vs written _ s (ready settles) uses) f e)
 idle_took name os o word rest i w rows p s ready _ (alone q takes by_id settles is) step f e =
     let d = differ q o in
-    subst (λ x. Holds o (settled (done_rules os) (walk_end os (at_word (record (settled (done_rules os) (idle_held rows p)) { pending = Some (id_of q, []) }) (option (id_of q))) rest)).rows x)
+    subst (λ x. Holds o (settled (done_rules os) (walk_end os (at_word
+    (record (settled (done_rules os) (idle_held rows p)) { pending = Some (id_of q, []) })
+    (option (id_of q))) rest)).rows x)
     (ap (λ n. option_or s (given_by n rest (given o rest))) (sym (is d)))
     (w _ q d s takes by_id (ready settles) f e)
 idle_took name os o word [] i w rows p s ready _ (dashes is) step f e =
     subst (λ x. Holds o (settled (done_rules os) (idle_held rows p)).rows x)
     (sym (some_first s) ∙ ap (λ n. option_or s (given_by n [] None)) (sym is)) (ready e)
-idle_took name os o word (x ∷ rest) i w rows p s ready _ (dashes is) step f e = absurd (trailing_ends name os (idle_held rows p) idle x rest f)
+idle_took name os o word (x ∷ rest) i w rows p s ready _ (dashes is) step f e =
+    absurd (trailing_ends name os (idle_held rows p) idle x rest f)
 idle_took name os o word rest i w rows p s ready _ (other is) step f e = absurd (stray name os (idle_held rows p) step)
 
-wait_ready : (os : List CommandOption) (o q : CommandOption) (d : Which q o) (rows : List Row) (s : Option Text) (word : Text) → is_flag q ≡ false → arg_by_id (done_rules os) (id_of q) ≡ Some (done_rule q) → Holds o rows s
+wait_ready : (os : List CommandOption) (o q : CommandOption) (d : Which q o) (rows : List Row) (s : Option Text)
+    (word : Text)
+    → is_flag q ≡ false → arg_by_id (done_rules os) (id_of q) ≡ Some (done_rule q) → Holds o rows s
     → settle_fault (done_rules os) false (idle_held rows (Some (id_of q, word ∷ []))) ≡ []
     → Holds o (settled (done_rules os) (idle_held rows (Some (id_of q, word ∷ [])))).rows (option_or s (mine d word))
 wait_ready os o q d rows s word takes by_id holds e =
     subst (λ r. Holds o (used_by_id r (word ∷ []) rows) (option_or s (mine d word))) (sym by_id)
-    (use_holds o q d word (word ∷ []) (by_value word takes) rows s holds (sym (ap (λ r. option_map_or (λ a. use_fault false a (word ∷ []) rows) r []) by_id) ∙ e))
+    (use_holds o q d word (word ∷ []) (by_value word takes) rows s holds
+    (sym (ap (λ r. option_map_or (λ a. use_fault false a (word ∷ []) rows) r []) by_id) ∙ e))
 
-pub value_state : (os : List CommandOption) (q : CommandOption) (rows : List Row) (word : Text) → is_flag q ≡ false → arg_by_id (done_rules os) (id_of q) ≡ Some (done_rule q)
+pub value_state : (os : List CommandOption) (q : CommandOption) (rows : List Row) (word : Text) → is_flag q ≡ false
+    → arg_by_id (done_rules os) (id_of q) ≡ Some (done_rule q)
     → at_word (option_word (arg_by_id (done_rules os) (id_of q)) (id_of q) word (idle_held rows (Some (id_of q, [])))).0
     (option_word (arg_by_id (done_rules os) (id_of q)) (id_of q) word (idle_held rows (Some (id_of q, [])))).1
     ≡ at_word (idle_held rows (Some (id_of q, word ∷ []))) idle
 value_state os q rows word takes by_id =
-    ap (λ r. at_word (option_word r (id_of q) word (idle_held rows (Some (id_of q, [])))).0 (option_word r (id_of q) word (idle_held rows (Some (id_of q, [])))).1) by_id
-    ∙ ap (λ b. at_word (idle_held rows (Some (id_of q, word ∷ []))) (cond (nat_lt (cond (bytes_eq (id_of q) (id_of q)) 1 0) (values_after b)) (option (id_of q)) idle)) takes
-    ∙ ap (λ b. at_word (idle_held rows (Some (id_of q, word ∷ []))) (cond (nat_lt (cond b 1 0) 1) (option (id_of q)) idle)) (bytes_same (id_of q))
+    ap (λ r. at_word (option_word r (id_of q) word (idle_held rows (Some (id_of q, [])))).0
+    (option_word r (id_of q) word (idle_held rows (Some (id_of q, [])))).1) by_id
+    ∙ ap (λ b. at_word (idle_held rows (Some (id_of q, word ∷ [])))
+    (cond (nat_lt (cond (bytes_eq (id_of q) (id_of q)) 1 0) (values_after b)) (option (id_of q)) idle)) takes
+    ∙ ap (λ b. at_word (idle_held rows (Some (id_of q, word ∷ [])))
+    (cond (nat_lt (cond b 1 0) 1) (option (id_of q)) idle)) (bytes_same (id_of q))
 
-wait_took : (name : Text) (os : List CommandOption) (o : CommandOption) (word : Text) (rest : List Text) → Idle name os o rest
-    → (rows : List Row) (q : CommandOption) (d : Which q o) (s : Option Text) → is_flag q ≡ false → arg_by_id (done_rules os) (id_of q) ≡ Some (done_rule q) → Holds o rows s
+wait_took : (name : Text) (os : List CommandOption) (o : CommandOption) (word : Text) (rest : List Text)
+    → Idle name os o rest
+    → (rows : List Row) (q : CommandOption) (d : Which q o) (s : Option Text) → is_flag q ≡ false
+    → arg_by_id (done_rules os) (id_of q) ≡ Some (done_rule q) → Holds o rows s
     → (m : Held × Step) → Turn os o word (option (id_of q)) (idle_held rows (Some (id_of q, []))) m
     → step_fault (leaf_done name os) 1 m.0 m.1 ≡ []
-    → Ends name os o (after_step (done_rules os) word (at_word (idle_held rows (Some (id_of q, []))) (option (id_of q))) m.0 m.1) rest
+    → Ends name os o (after_step (done_rules os) word
+    (at_word (idle_held rows (Some (id_of q, []))) (option (id_of q))) m.0 m.1) rest
     (option_or s (given_by (mine d None) (word ∷ rest) (given o (word ∷ rest))))
-wait_took name os o word rest i rows q d s takes by_id holds _ (attached q2 v vs written by2 settles uses is) step f e = absurd (no_value os q rows takes by_id settles)
-wait_took name os o word rest i rows q d s takes by_id holds _ (alone q2 plain2 by2 settles is) step f e = absurd (no_value os q rows takes by_id settles)
-wait_took name os o word [] i rows q d s takes by_id holds _ (dashes is) step f e = absurd (no_value os q rows takes by_id e)
-wait_took name os o word (x ∷ rest) i rows q d s takes by_id holds _ (dashes is) step f e = absurd (trailing_ends name os (idle_held rows (Some (id_of q, []))) (option (id_of q)) x rest f)
+wait_took name os o word rest i rows q d s takes by_id holds _ (attached q2 v vs written by2 settles uses is) step f e =
+    absurd (no_value os q rows takes by_id settles)
+wait_took name os o word rest i rows q d s takes by_id holds _ (alone q2 plain2 by2 settles is) step f e =
+    absurd (no_value os q rows takes by_id settles)
+wait_took name os o word [] i rows q d s takes by_id holds _ (dashes is) step f e =
+    absurd (no_value os q rows takes by_id e)
+wait_took name os o word (x ∷ rest) i rows q d s takes by_id holds _ (dashes is) step f e =
+    absurd (trailing_ends name os (idle_held rows (Some (id_of q, []))) (option (id_of q)) x rest f)
 wait_took name os o word rest i rows q d s takes by_id holds _ (other is) step f e =
-    subst (λ w. Ends name os o w rest (option_or s (given_by (mine d None) (word ∷ rest) (given o (word ∷ rest))))) (sym (value_state os q rows word takes by_id))
+    subst (λ w. Ends name os o w rest (option_or s (given_by (mine d None) (word ∷ rest) (given o (word ∷ rest)))))
+    (sym (value_state os q rows word takes by_id))
     (λ f2 e2. subst (λ x. Holds o (settled (done_rules os) (walk_end os (at_word (idle_held rows (Some (id_of q, word ∷ []))) idle) rest)).rows x)
-    (value_same s o q d word rest (given o rest) ∙ ap (λ n. option_or s (given_by (mine d None) (word ∷ rest) (given_by n rest (given o rest)))) (sym is))
+    (value_same s o q d word rest (given o rest)
+    ∙ ap (λ n. option_or s (given_by (mine d None) (word ∷ rest) (given_by n rest (given o rest)))) (sym is))
     (i rows (Some (id_of q, word ∷ [])) (option_or s (mine d word)) (wait_ready os o q d rows s word takes by_id holds) f2 e2)) f e
 
-idle_step : (name : Text) (os : List CommandOption) (o : CommandOption) (word : Text) (rest : List Text) → Idle name os o rest → Waits name os o rest → Idle name os o (word ∷ rest)
+idle_step : (name : Text) (os : List CommandOption) (o : CommandOption) (word : Text) (rest : List Text)
+    → Idle name os o rest → Waits name os o rest → Idle name os o (word ∷ rest)
 unfolding walk_fault walked
 idle_step name os o word rest i w rows p s ready f e =
     let parts = or_nil (turn_fault (leaf_done name os) [] (at_word (idle_held rows p) idle) word) _ f in
     let two = or_nil (word_fault (leaf_done name os) [] false idle word (idle_held rows p)) _ parts.0 in
-    idle_took name os o word rest i w rows p s ready (word_met (done_rules os) [] false idle 1 word (idle_held rows p)) (word_turn name os o word idle rows p two.0) two.1 parts.1 e
+    idle_took name os o word rest i w rows p s ready (word_met (done_rules os) [] false idle 1 word (idle_held rows p))
+    (word_turn name os o word idle rows p two.0) two.1 parts.1 e
 
-wait_step : (name : Text) (os : List CommandOption) (o : CommandOption) (word : Text) (rest : List Text) → Idle name os o rest → Waits name os o (word ∷ rest)
+wait_step : (name : Text) (os : List CommandOption) (o : CommandOption) (word : Text) (rest : List Text)
+    → Idle name os o rest → Waits name os o (word ∷ rest)
 unfolding walk_fault walked
 wait_step name os o word rest i rows q d s takes by_id holds f e =
     let h = idle_held rows (Some (id_of q, [])) in
     let parts = or_nil (turn_fault (leaf_done name os) [] (at_word h (option (id_of q))) word) _ f in
     let two = or_nil (word_fault (leaf_done name os) [] false (option (id_of q)) word h) _ parts.0 in
-    wait_took name os o word rest i rows q d s takes by_id holds (word_met (done_rules os) [] false (option (id_of q)) 1 word h) (word_turn name os o word (option (id_of q)) rows (Some (id_of q, [])) two.0) two.1 parts.1 e
+    wait_took name os o word rest i rows q d s takes by_id holds
+    (word_met (done_rules os) [] false (option (id_of q)) 1 word h)
+    (word_turn name os o word (option (id_of q)) rows (Some (id_of q, [])) two.0) two.1 parts.1 e
 
-pub walks : (name : Text) (os : List CommandOption) (o : CommandOption) (words : List Text) → Idle name os o words × Waits name os o words
+pub walks : (name : Text) (os : List CommandOption) (o : CommandOption) (words : List Text)
+    → Idle name os o words × Waits name os o words
 unfolding walk_fault
 walks name os o [] = (
-  λ rows p s ready f e. subst (λ x. Holds o (settled (done_rules os) (idle_held rows p)).rows x) (sym (some_first s)) (ready e),
+  λ rows p s ready f e. subst (λ x. Holds o (settled (done_rules os) (idle_held rows p)).rows x) (sym (some_first s))
+      (ready e),
   λ rows q d s takes by_id holds f e. absurd (no_value os q rows takes by_id e),
 )
 walks name os o (word ∷ rest) =
@@ -667,8 +798,11 @@ wanted o [] rs none needed e = absurd none
 wanted o (x ∷ os) rs is needed e = go (is_required x) refl (is_given (id_of x) rs) refl is (wanted o os rs) e
   where
     go : (r : Bool) → is_required x ≡ r → (b : Bool) → is_given (id_of x) rs ≡ b → (x ≡ o) ⊎ IsListed o os
-        → (IsListed o os → is_required o ≡ true → list_any (λ a. a.required && not (is_given a.id rs)) (done_rules os) ≡ false → is_given (id_of o) rs ≡ true)
-        → ((r && not b) || list_any (λ a. a.required && not (is_given a.id rs)) (done_rules os)) ≡ false → is_given (id_of o) rs ≡ true
+        → (IsListed o os → is_required o ≡ true
+        → list_any (λ a. a.required && not (is_given a.id rs)) (done_rules os) ≡ false
+        → is_given (id_of o) rs ≡ true)
+        → ((r && not b) || list_any (λ a. a.required && not (is_given a.id rs)) (done_rules os)) ≡ false
+        → is_given (id_of o) rs ≡ true
     go true req true at (inl same) later e2 = subst (λ y. is_given (id_of y) rs ≡ true) same at
     go true req true at (inr is2) later e2 = later is2 needed e2
     go true req false at is2 later e2 = absurd (true≢false e2)
@@ -679,26 +813,32 @@ pub missing_nil : (b : Bool) → cond b (kind.MissingRequiredArgument ∷ []) []
 missing_nil true e = cc
 missing_nil false e = refl
 
--- the entry of the option is what the words give it, which passes its parser; and where the command requires the option,
--- the words give it
+-- the entry of the option is what the words give it, which passes its parser; and where the command requires the
+-- option, the words give it
 pub record Reads (os : List CommandOption) (o : CommandOption) (words : List Text) (rs : List Row) : Type 0 where
   pub holds : Holds o rs (given o words)
   pub wanted : IsListed o os → is_required o ≡ true → is_some (given o words) ≡ true
 
-given_there : (o : CommandOption) (rs : List Row) (s : Option Text) → Holds o rs s → is_given (id_of o) rs ≡ true → is_some s ≡ true
+given_there : (o : CommandOption) (rs : List Row) (s : Option Text) → Holds o rs s → is_given (id_of o) rs ≡ true
+    → is_some s ≡ true
 given_there o rs None h e = sym (ap (λ r. option_map_or (λ (x : Row). explicit_source x.source) r false) h.0) ∙ e
 given_there o rs (Some v) h e = refl
 
--- where no step of the parse fails, the row of each option has what the words give it, and each that is required is given
-pub leaf_reads : (name : Text) (os : List CommandOption) (words : List Text) → level_fault (leaf_done name os) [] nothing_held words false [] ≡ []
+-- where no step of the parse fails, the row of each option has what the words give it, and each that is required is
+-- given
+pub leaf_reads : (name : Text) (os : List CommandOption) (words : List Text)
+    → level_fault (leaf_done name os) [] nothing_held words false [] ≡ []
     → (o : CommandOption) → Reads os o words (rows_after (done_rules os) [] words)
 leaf_reads name os words f o =
     let end = walk_end os (at_word (idle_held [] None) idle) words in
     let a = or_nil (walk_fault (leaf_done name os) [] (at_word (idle_held [] None) idle) words) _ f in
     let b = or_nil (settle_fault (done_rules os) false end) _ a.1 in
     let d = or_nil (defaults_fault (settled (done_rules os) end).rows (done_rules os)) _ b.1 in
-    let holds : Holds o (settled (done_rules os) end).rows (given o words) = (walks name os o words).0 [] None None (λ _. (refl, tt)) a.0 b.0 in
+    let holds : Holds o (settled (done_rules os) end).rows (given o words) =
+    (walks name os o words).0 [] None None (λ _. (refl, tt)) a.0 b.0 in
     let done : Holds o (finished (done_rules os) end) (given o words) = subst (λ rs. Holds o rs (given o words)) (sym (no_default os (settled (done_rules os) end).rows)) holds in record {
       holds = done;
-      wanted = λ is needed. given_there o (finished (done_rules os) end) (given o words) done (wanted o os (finished (done_rules os) end) is needed (missing_nil _ d.1));
+      wanted =
+          λ is needed. given_there o (finished (done_rules os) end) (given o words) done
+          (wanted o os (finished (done_rules os) end) is needed (missing_nil _ d.1));
     }

@@ -80,7 +80,9 @@ LacksEquals name = list_any (λ x. x == 61) name ≡ false
 abbrev cut_at : Text → Text → Bool → ℕ → Option (Option Text)
 cut_at name text has k = cond (bytes_eq name (take k text)) (Some (cond has (Some (drop (k + 1) text)) None)) None
 
-cut_same : (name text : Text) → LacksEquals name → option_and_then long_value (after name text) ≡ cut_at name text (has_byte 61 text) (position_or_len (λ x. x == 61) text)
+cut_same : (name text : Text) → LacksEquals name
+    → option_and_then long_value (after name text)
+    ≡ cut_at name text (has_byte 61 text) (position_or_len (λ x. x == 61) text)
 cut_same [] [] lacks = refl
 cut_same [] (b ∷ bs) lacks = go (b == 61) (has_byte 61 bs) (position_or_len (λ x. x == 61) bs)
   where
@@ -88,16 +90,22 @@ cut_same [] (b ∷ bs) lacks = go (b == 61) (has_byte 61 bs) (position_or_len (�
     go true has m = refl
     go false has m = let e : suc m ≡ 1 + m = omega arith in ap (cut_at [] (b ∷ bs) has) e
 cut_same (n ∷ ns) [] lacks = refl
-cut_same (n ∷ ns) (b ∷ bs) lacks = go (b == 61) refl (has_byte 61 bs) (position_or_len (λ x. x == 61) bs) (cut_same ns bs (or_parts _ _ lacks).1)
+cut_same (n ∷ ns) (b ∷ bs) lacks =
+    go (b == 61) refl (has_byte 61 bs) (position_or_len (λ x. x == 61) bs) (cut_same ns bs (or_parts _ _ lacks).1)
   where
     later : (u has : Bool) (m : ℕ) → option_and_then long_value (after ns bs) ≡ cut_at ns bs has m
-        → option_and_then long_value (cond u (after ns bs) None) ≡ cond (u && bytes_eq ns (take m bs)) (Some (cond has (Some (drop (m + 1) bs)) None)) None
+        → option_and_then long_value (cond u (after ns bs) None)
+        ≡ cond (u && bytes_eq ns (take m bs)) (Some (cond has (Some (drop (m + 1) bs)) None)) None
     later true has m rest = rest
     later false has m rest = refl
 
-    go : (t : Bool) → (b == 61) ≡ t → (has : Bool) (m : ℕ) → option_and_then long_value (after ns bs) ≡ cut_at ns bs has m
-        → option_and_then long_value (cond (n == b) (after ns bs) None) ≡ cut_at (n ∷ ns) (b ∷ bs) (t || has) (cond (not t) (1 + m) 0)
-    go true e has m rest = ap (λ u. option_and_then long_value (cond u (after ns bs) None)) (ap (λ x. n == x) (eqb-true b 61 e) ∙ (or_parts _ _ lacks).0)
+    go : (t : Bool) → (b == 61) ≡ t → (has : Bool) (m : ℕ)
+        → option_and_then long_value (after ns bs) ≡ cut_at ns bs has m
+        → option_and_then long_value (cond (n == b) (after ns bs) None)
+        ≡ cut_at (n ∷ ns) (b ∷ bs) (t || has) (cond (not t) (1 + m) 0)
+    go true e has m rest =
+        ap (λ u. option_and_then long_value (cond u (after ns bs) None))
+        (ap (λ x. n == x) (eqb-true b 61 e) ∙ (or_parts _ _ lacks).0)
     go false e has m rest =
         let one : suc m ≡ 1 + m = omega arith in
         let two : suc (m + 1) ≡ suc m + 1 = omega arith in
@@ -122,18 +130,23 @@ long_same None word plain = go (long_of word)
     go (Some p) = refl
 long_same (Some []) word plain = absurd (true≢false plain)
 long_same (Some (n ∷ ns)) [] plain = refl
-long_same (Some (n ∷ ns)) (b ∷ bs) plain = ap (λ t. option_and_then long_value (cond t (after (45 ∷ n ∷ ns) bs) None)) (same_sym 45 b) ∙ first bs (b == 45)
+long_same (Some (n ∷ ns)) (b ∷ bs) plain =
+    ap (λ t. option_and_then long_value (cond t (after (45 ∷ n ∷ ns) bs) None)) (same_sym 45 b) ∙ first bs (b == 45)
   where
-    second : (ds : Text) (t : Bool) → option_and_then long_value (cond t (after (n ∷ ns) ds) None) ≡ long_by (Some (n ∷ ns)) (option_and_then long_of_rest (cond t (Some ds) None))
+    second : (ds : Text) (t : Bool)
+        → option_and_then long_value (cond t (after (n ∷ ns) ds) None)
+        ≡ long_by (Some (n ∷ ns)) (option_and_then long_of_rest (cond t (Some ds) None))
     second ds false = refl
     second [] true = refl
     second (d ∷ ds) true = cut_same (n ∷ ns) (d ∷ ds) plain
 
     first : (cs : Text) (t : Bool) → option_and_then long_value (cond t (after (45 ∷ n ∷ ns) cs) None)
-        ≡ long_by (Some (n ∷ ns)) (option_and_then long_of_rest (option_and_then (strip_byte 45) (cond t (Some cs) None)))
+        ≡ long_by (Some (n ∷ ns))
+        (option_and_then long_of_rest (option_and_then (strip_byte 45) (cond t (Some cs) None)))
     first cs false = refl
     first [] true = refl
-    first (d ∷ ds) true = ap (λ t. option_and_then long_value (cond t (after (n ∷ ns) ds) None)) (same_sym 45 d) ∙ second ds (d == 45)
+    first (d ∷ ds) true =
+        ap (λ t. option_and_then long_value (cond t (after (n ∷ ns) ds) None)) (same_sym 45 d) ∙ second ds (d == 45)
 
 -- ---- a short name
 
@@ -141,7 +154,8 @@ value_same : (text : Text) → short_value text ≡ attached_value text
 value_same [] = refl
 value_same (b ∷ bs) = go (b == 61)
   where
-    go : (t : Bool) → cond t (Some bs) (Some (b ∷ bs)) ≡ option_map_or (λ v. Some v) (cond t (Some bs) None) (Some (b ∷ bs))
+    go : (t : Bool)
+        → cond t (Some bs) (Some (b ∷ bs)) ≡ option_map_or (λ v. Some v) (cond t (Some bs) None) (Some (b ∷ bs))
     go true = refl
     go false = refl
 
@@ -166,17 +180,22 @@ short_same None word plain = go (short_of word)
     go None = refl
     go (Some flags) = first flags (slice_get (chars flags) 0)
 short_same (Some c) [] plain = refl
-short_same (Some c) (b ∷ bs) plain = ap (λ t. option_and_then (by_character c) (cond t (Some bs) None)) (same_sym 45 b) ∙ go bs (b == 45)
+short_same (Some c) (b ∷ bs) plain =
+    ap (λ t. option_and_then (by_character c) (cond t (Some bs) None)) (same_sym 45 b) ∙ go bs (b == 45)
   where
-    at_first : (d : ℕ) (ds : Text) (y : Option ℕ) → option_map_or (λ first. cond (c == first) (Some (short_value ds)) None) y None ≡ short_at (Some c) (d ∷ ds) y
+    at_first : (d : ℕ) (ds : Text) (y : Option ℕ)
+        → option_map_or (λ first. cond (c == first) (Some (short_value ds)) None) y None ≡ short_at (Some c) (d ∷ ds) y
     at_first d ds None = refl
     at_first d ds (Some y) = ap (λ v. cond (c == y) (Some v) None) (value_same ds)
 
-    flagged : (d : ℕ) (ds : Text) (t : Bool) → (d == 45) ≡ t → by_character c (d ∷ ds) ≡ short_by (Some c) (cond t None (Some (d ∷ ds)))
+    flagged : (d : ℕ) (ds : Text) (t : Bool) → (d == 45) ≡ t
+        → by_character c (d ∷ ds) ≡ short_by (Some c) (cond t None (Some (d ∷ ds)))
     flagged d ds true e = ap (λ x. by_character c (x ∷ ds)) (eqb-true d 45 e) ∙ no_hyphen c ds plain
     flagged d ds false e = at_first d ds (slice_get (chars (d ∷ ds)) 0)
 
-    go : (cs : Text) (t : Bool) → option_and_then (by_character c) (cond t (Some cs) None) ≡ short_by (Some c) (option_and_then short_of_rest (cond t (Some cs) None))
+    go : (cs : Text) (t : Bool)
+        → option_and_then (by_character c) (cond t (Some cs) None)
+        ≡ short_by (Some c) (option_and_then short_of_rest (cond t (Some cs) None))
     go cs false = refl
     go [] true = refl
     go (d ∷ ds) true = flagged d ds (d == 45) refl
@@ -188,11 +207,13 @@ no_flags : (word : Text) (p : Text × Option Text) → long_of word ≡ Some p �
 no_flags [] p e = refl
 no_flags (b ∷ bs) p e = go bs (b == 45) e
   where
-    second : (d : ℕ) (ds : Text) (t : Bool) → option_and_then long_of_rest (cond t (Some ds) None) ≡ Some p → cond t None (Some (d ∷ ds)) ≡ None
+    second : (d : ℕ) (ds : Text) (t : Bool) → option_and_then long_of_rest (cond t (Some ds) None) ≡ Some p
+        → cond t None (Some (d ∷ ds)) ≡ None
     second d ds true e2 = refl
     second d ds false e2 = cc
 
-    go : (cs : Text) (t : Bool) → option_and_then long_of_rest (option_and_then (strip_byte 45) (cond t (Some cs) None)) ≡ Some p
+    go : (cs : Text) (t : Bool)
+        → option_and_then long_of_rest (option_and_then (strip_byte 45) (cond t (Some cs) None)) ≡ Some p
         → option_and_then short_of_rest (cond t (Some cs) None) ≡ None
     go cs false e2 = refl
     go [] true e2 = refl
@@ -204,11 +225,15 @@ or_none (Some x) = refl
 
 parts_same : (long : Option Text) (short : Option ℕ) (word : Text) → PlainLong long → PlainShort short
     → option_or (own.by_long long word) (own.by_short short word) ≡ parts long short (long_of word) (short_of word)
-parts_same long short word plain_long plain_short = ap₂ option_or (long_same long word plain_long) (short_same short word plain_short) ∙ go (long_of word) refl
+parts_same long short word plain_long plain_short =
+    ap₂ option_or (long_same long word plain_long) (short_same short word plain_short) ∙ go (long_of word) refl
   where
-    go : (p : Option (Text × Option Text)) → long_of word ≡ p → option_or (long_by long p) (short_by short (short_of word)) ≡ parts long short p (short_of word)
+    go : (p : Option (Text × Option Text)) → long_of word ≡ p
+        → option_or (long_by long p) (short_by short (short_of word)) ≡ parts long short p (short_of word)
     go None e = refl
-    go (Some p) e = ap (λ f. option_or (long_by long (Some p)) (short_by short f)) (no_flags word p e) ∙ or_none (long_by long (Some p))
+    go (Some p) e =
+        ap (λ f. option_or (long_by long (Some p)) (short_by short f)) (no_flags word p e)
+        ∙ or_none (long_by long (Some p))
 
 plain_long : (o : CommandOption) → PlainLong (long_name o)
 plain_long Cell = refl
@@ -222,4 +247,5 @@ plain_short o = refl
 pub given_same : (o : CommandOption) (words : List Text) → own.given o words ≡ given o words
 given_same o [] = refl
 given_same o (word ∷ rest) = ap₂ (λ n later. given_by n rest later)
-    (ap (with_true (is_flag o)) (parts_same (long_name o) (short_name o) word (plain_long o) (plain_short o))) (given_same o rest)
+    (ap (with_true (is_flag o)) (parts_same (long_name o) (short_name o) word (plain_long o) (plain_short o)))
+    (given_same o rest)

@@ -21,7 +21,14 @@ leaf k = leaf_done (word_of k) (options_of k)
 
 -- the command line without its commands, as `clap` completes it
 abbrev pub top_done : Shape
-top_done = record (new_shape (codes "h3")) { rules = done_rules []; subcommand_required = true; disable_help_subcommand = true; is_leaf = false; is_built = true }
+top_done =
+    record (new_shape (codes "h3")) {
+      rules = done_rules [];
+      subcommand_required = true;
+      disable_help_subcommand = true;
+      is_leaf = false;
+      is_built = true;
+    }
 
 -- the command line with these commands, as `clap` completes it
 abbrev pub app_done : List Command → App
@@ -37,11 +44,13 @@ data Named (ks : List Command) (word : Text) : Option (Text × List Text) → Ty
   is_name : (k : Command) → bytes_eq (word_of k) word ≡ true → Named ks word (Some (label_of (leaf k)))
   no_name : Named ks word None
 
-named_later : (word : Text) (x : Command) (ks : List Command) (r : Option (Text × List Text)) → Named ks word r → Named (x ∷ ks) word r
+named_later : (word : Text) (x : Command) (ks : List Command) (r : Option (Text × List Text)) → Named ks word r
+    → Named (x ∷ ks) word r
 named_later word x ks _ (is_name k same) = is_name k same
 named_later word x ks _ no_name = no_name
 
-named_step : (word : Text) (x : Command) (ks : List Command) (r : Option (Text × List Text)) → Named ks word r → (b : Bool) → answers_to word (label_of (leaf x)) ≡ b
+named_step : (word : Text) (x : Command) (ks : List Command) (r : Option (Text × List Text)) → Named ks word r
+    → (b : Bool) → answers_to word (label_of (leaf x)) ≡ b
     → Named (x ∷ ks) word (cond b (Some (label_of (leaf x))) r)
 named_step word x ks r later true e = is_name x (sym (or_false (bytes_eq (word_of x) word)) ∙ e)
 named_step word x ks r later false e = named_later word x ks r later
@@ -56,10 +65,12 @@ named_in word (x ∷ ks) = named_step word x ks _ (named_in word ks) (answers_to
 abbrev pub stopped_at : Text → List Text → Walk
 stopped_at name words = record (at_word (idle_held [] None) idle) { stopped = Some (name, words) }
 
-pub keeps_stop : (names : Names) (name : Text) (before words : List Text) → fold (walked (done_rules []) names) (stopped_at name before) words ≡ stopped_at name (before ++ words)
+pub keeps_stop : (names : Names) (name : Text) (before words : List Text)
+    → fold (walked (done_rules []) names) (stopped_at name before) words ≡ stopped_at name (before ++ words)
 unfolding walked
 keeps_stop names name before [] = ap (stopped_at name) (sym (append-nil before))
-keeps_stop names name before (x ∷ words) = keeps_stop names name (before ++ x ∷ []) words ∙ ap (stopped_at name) (append_assoc before (x ∷ []) words)
+keeps_stop names name before (x ∷ words) =
+    keeps_stop names name (before ++ x ∷ []) words ∙ ap (stopped_at name) (append_assoc before (x ∷ []) words)
 
 no_option_at_top : (q : CommandOption) → arg_by_id (done_rules []) (id_of q) ≡ Some (done_rule q) → ⊥
 no_option_at_top Cell e = cc
@@ -70,7 +81,8 @@ abbrev pub Enters : List Text → Type 0
 Enters words = (k : Command) × (rest : List Text) × (words ≡ word_of k ∷ rest)
 
 -- a level that enters no command fails
-missing : (ks : List Command) (words : List Text) → level_fault top_done (names_of (app_done ks)) nothing_held words false [] ≡ [] → ⊥
+missing : (ks : List Command) (words : List Text)
+    → level_fault top_done (names_of (app_done ks)) nothing_held words false [] ≡ [] → ⊥
 missing ks words f =
     let names = names_of (app_done ks) in
     let end = (walk (done_rules []) names nothing_held words).held in
@@ -80,14 +92,22 @@ missing ks words f =
     cons_nil kind.MissingSubcommand [] d.1
 
 trailing_top : (ks : List Command) (word : Text) (rest : List Text)
-    → walk_fault top_done (names_of (app_done ks)) (record (at_word (idle_held [] None) idle) { is_trailing = true }) (word ∷ rest) ≡ [] → ⊥
+    → walk_fault top_done (names_of (app_done ks)) (record (at_word (idle_held [] None) idle) { is_trailing = true })
+    (word ∷ rest)
+    ≡ []
+    → ⊥
 unfolding walk_fault
 trailing_top ks word rest f = cons_nil kind.UnknownArgument (kind.InvalidSubcommand ∷ []) f
 
-none_case : (ks : List Command) (word : Text) (rest : List Text) (m : Held × Step) → Turn [] Cell word idle (idle_held [] None) m
+none_case : (ks : List Command) (word : Text) (rest : List Text) (m : Held × Step)
+    → Turn [] Cell word idle (idle_held [] None) m
     → step_fault top_done 1 m.0 m.1 ≡ []
-    → walk_fault top_done (names_of (app_done ks)) (after_step (done_rules []) word (at_word (idle_held [] None) idle) m.0 m.1) rest ≡ []
-    → ((fold (walked (done_rules []) (names_of (app_done ks))) (after_step (done_rules []) word (at_word (idle_held [] None) idle) m.0 m.1) rest).stopped ≡ None → ⊥) → ⊥
+    → walk_fault top_done (names_of (app_done ks))
+    (after_step (done_rules []) word (at_word (idle_held [] None) idle) m.0 m.1) rest
+    ≡ []
+    → ((fold (walked (done_rules []) (names_of (app_done ks)))
+    (after_step (done_rules []) word (at_word (idle_held [] None) idle) m.0 m.1) rest).stopped ≡ None → ⊥)
+    → ⊥
 none_case ks word rest _ (attached q v vs written by_id settles uses is) step f enters = no_option_at_top q by_id
 none_case ks word rest _ (alone q plain by_id settles is) step f enters = no_option_at_top q by_id
 none_case ks word [] _ (dashes is) step f enters = enters refl
@@ -100,18 +120,25 @@ first_met word r = subcommand_or_other (done_rules []) (option_map (λ s. s.0) r
 
 -- the walk after the first word
 abbrev pub first_state : Text → Option (Text × List Text) → Walk
-first_state word r = after_step (done_rules []) word (at_word (idle_held [] None) idle) (first_met word r).0 (first_met word r).1
+first_state word r =
+    after_step (done_rules []) word (at_word (idle_held [] None) idle) (first_met word r).0 (first_met word r).1
 
-stop_is : (ks : List Command) (word : Text) (rest : List Text) (r : Option (Text × List Text)) → find (answers_to word) (names_of (app_done ks)) ≡ r
-    → (walk (done_rules []) (names_of (app_done ks)) nothing_held (word ∷ rest)).stopped ≡ (fold (walked (done_rules []) (names_of (app_done ks))) (first_state word r) rest).stopped
+stop_is : (ks : List Command) (word : Text) (rest : List Text) (r : Option (Text × List Text))
+    → find (answers_to word) (names_of (app_done ks)) ≡ r
+    → (walk (done_rules []) (names_of (app_done ks)) nothing_held (word ∷ rest)).stopped
+    ≡ (fold (walked (done_rules []) (names_of (app_done ks))) (first_state word r) rest).stopped
 unfolding walked
-stop_is ks word rest r e = ap (λ x. (fold (walked (done_rules []) (names_of (app_done ks))) (first_state word x) rest).stopped) e
+stop_is ks word rest r e =
+    ap (λ x. (fold (walked (done_rules []) (names_of (app_done ks))) (first_state word x) rest).stopped) e
 
 -- the kinds of the first step that fails at the top
 abbrev level_at : List Command → List Text → Option (Text × List Text) → Kinds
-level_at ks words stop = level_fault top_done (names_of (app_done ks)) nothing_held words (is_some (entered (app_done ks) stop)) (entered_fault (app_done ks) stop)
+level_at ks words stop =
+    level_fault top_done (names_of (app_done ks)) nothing_held words (is_some (entered (app_done ks) stop))
+    (entered_fault (app_done ks) stop)
 
-first_fault : (ks : List Command) (word : Text) (rest : List Text) (r : Option (Text × List Text)) → find (answers_to word) (names_of (app_done ks)) ≡ r
+first_fault : (ks : List Command) (word : Text) (rest : List Text) (r : Option (Text × List Text))
+    → find (answers_to word) (names_of (app_done ks)) ≡ r
     → walk_fault top_done (names_of (app_done ks)) (at_word (idle_held [] None) idle) (word ∷ rest) ≡ []
     → (other_fault top_done (option_map (λ s. s.0) r) word (idle_held [] None) ≡ [])
     × (step_fault top_done 1 (first_met word r).0 (first_met word r).1 ≡ [])
@@ -126,9 +153,12 @@ first_fault ks word rest r e f =
     let two = or_nil _ _ one.0 in
     (two.0, two.1, one.1)
 
-first_word : (ks : List Command) (word : Text) (rest : List Text) (r : Option (Text × List Text)) → Named ks word r → find (answers_to word) (names_of (app_done ks)) ≡ r
-    → level_at ks (word ∷ rest) (walk (done_rules []) (names_of (app_done ks)) nothing_held (word ∷ rest)).stopped ≡ [] → Enters (word ∷ rest)
-first_word ks word rest _ (is_name k same) e f = (k, rest, ap (λ x. x ∷ rest) (sym ((bytes_eq-Decides (word_of k) word).0 same)))
+first_word : (ks : List Command) (word : Text) (rest : List Text) (r : Option (Text × List Text)) → Named ks word r
+    → find (answers_to word) (names_of (app_done ks)) ≡ r
+    → level_at ks (word ∷ rest) (walk (done_rules []) (names_of (app_done ks)) nothing_held (word ∷ rest)).stopped ≡ []
+    → Enters (word ∷ rest)
+first_word ks word rest _ (is_name k same) e f =
+    (k, rest, ap (λ x. x ∷ rest) (sym ((bytes_eq-Decides (word_of k) word).0 same)))
 first_word ks word rest _ no_name e f =
     let faults = first_fault ks word rest None e (or_nil _ _ f).0 in
     absurd (none_case ks word rest (first_met word None) (dash_turn [] Cell word idle [] None (bytes_eq word (45 ∷ 45 ∷ [])) refl faults.0) faults.1 faults.2

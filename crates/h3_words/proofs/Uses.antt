@@ -56,7 +56,9 @@ uses_in o [] = 0
 uses_in o (u ∷ us) = (cond (bytes_eq (id_of u.option) (id_of o)) 1 0) + uses_in o us
 
 pub uses_in-uses_of : (o : CommandOption) (us : List Use) → uses_in o us ≡ uses_of o us
-uses_in-uses_of o us = is_count_by (uses_in o) (λ u. bytes_eq (id_of u.option) (id_of o)) refl (λ u rest. go (bytes_eq (id_of u.option) (id_of o)) (uses_in o rest)) us
+uses_in-uses_of o us =
+    is_count_by (uses_in o) (λ u. bytes_eq (id_of u.option) (id_of o)) refl
+    (λ u rest. go (bytes_eq (id_of u.option) (id_of o)) (uses_in o rest)) us
   where
     go : (b : Bool) (n : ℕ) → cond b 1 0 + n ≡ cond b (1 + n) n
     go true n = refl

@@ -78,7 +78,8 @@ abbrev pub option_of : Value → CommandOption
 option_of (Index o index) = o
 option_of (Number o number) = o
 
--- how a command is asked for: its word, the values that it has for its options, and the options that it has beside those
+-- how a command is asked for: its word, the values that it has for its options, and the options that it has beside
+-- those
 pub record Call : Type 0 where
   pub word : Text
   pub values : List Value
@@ -90,7 +91,9 @@ list_options = option.Field ∷ option.Column ∷ option.Header ∷ option.Separ
 
 -- the options of each command that answers its list line by line: how its rows are read and written
 abbrev pub line_options : List CommandOption
-line_options = option.Field ∷ option.Column ∷ option.Header ∷ option.Separator ∷ option.Csv ∷ option.As ∷ option.KeepGoing ∷ option.Errors ∷ option.Ragged ∷ []
+line_options =
+    option.Field ∷ option.Column ∷ option.Header ∷ option.Separator ∷ option.Csv ∷ option.As ∷ option.KeepGoing
+    ∷ option.Errors ∷ option.Ragged ∷ []
 
 -- the options of each command about a region: its file, and how the rows of that are read if it is a table
 abbrev pub region_options : List CommandOption
@@ -105,59 +108,189 @@ zone_options = option.Zones ∷ option.ZoneColumn ∷ option.ZoneField ∷ []
 abbrev pub name_options : List CommandOption
 name_options = option.ZoneName ∷ option.ZoneNameField ∷ option.NoZone ∷ []
 
+-- the options of a command that may add up a field of its list's rows
+abbrev pub sum_options : List CommandOption
+sum_options = option.Sum ∷ option.SumField ∷ []
+
+-- the options of a command that may answer with one list for each value of a field of its list's rows
+abbrev pub by_options : List CommandOption
+by_options = option.By ∷ option.ByField ∷ []
+
 -- call_of command: the word of a `Command`, the values that it has for its options, and its other options
 abbrev pub call_of : Command → Call
-call_of (command.IsValidCell cell) = record { word = codes "isValidCell"; values = Index option.Cell cell ∷ []; others = [] }
-call_of (command.GetResolution cell) = record { word = codes "getResolution"; values = Index option.Cell cell ∷ []; others = [] }
-call_of (command.GetBaseCellNumber cell) = record { word = codes "getBaseCellNumber"; values = Index option.Cell cell ∷ []; others = [] }
-call_of (command.IsPentagon cell) = record { word = codes "isPentagon"; values = Index option.Cell cell ∷ []; others = [] }
-call_of (command.IsResClassIII cell) = record { word = codes "isResClassIII"; values = Index option.Cell cell ∷ []; others = [] }
-call_of (command.GetNumCells res) = record { word = codes "getNumCells"; values = Number option.Resolution res ∷ []; others = [] }
+call_of (command.IsValidCell cell) =
+    record { word = codes "isValidCell"; values = Index option.Cell cell ∷ []; others = [] }
+call_of (command.GetResolution cell) =
+    record { word = codes "getResolution"; values = Index option.Cell cell ∷ []; others = [] }
+call_of (command.GetBaseCellNumber cell) =
+    record { word = codes "getBaseCellNumber"; values = Index option.Cell cell ∷ []; others = [] }
+call_of (command.IsPentagon cell) =
+    record { word = codes "isPentagon"; values = Index option.Cell cell ∷ []; others = [] }
+call_of (command.IsResClassIII cell) =
+    record { word = codes "isResClassIII"; values = Index option.Cell cell ∷ []; others = [] }
+call_of (command.GetNumCells res) =
+    record { word = codes "getNumCells"; values = Number option.Resolution res ∷ []; others = [] }
 call_of command.GetRes0Cells = record { word = codes "getRes0Cells"; values = []; others = [] }
-call_of (command.GetPentagons res) = record { word = codes "getPentagons"; values = Number option.Resolution res ∷ []; others = [] }
-call_of (command.CellToParent cell res) = record { word = codes "cellToParent"; values = Index option.Cell cell ∷ Number option.Resolution res ∷ []; others = [] }
-call_of (command.CellToCenterChild cell res) = record { word = codes "cellToCenterChild"; values = Index option.Cell cell ∷ Number option.Resolution res ∷ []; others = [] }
-call_of (command.CellToLastChild cell res) = record { word = codes "cellToLastChild"; values = Index option.Cell cell ∷ Number option.Resolution res ∷ []; others = [] }
-call_of (command.CellToChildren cell res) = record { word = codes "cellToChildren"; values = Index option.Cell cell ∷ Number option.Resolution res ∷ []; others = [] }
-call_of (command.CellToChildrenSize cell res) = record { word = codes "cellToChildrenSize"; values = Index option.Cell cell ∷ Number option.Resolution res ∷ []; others = [] }
-call_of (command.CellToChildPos cell res) = record { word = codes "cellToChildPos"; values = Index option.Cell cell ∷ Number option.Resolution res ∷ []; others = [] }
-call_of (command.ChildPosToCell position cell res) = record { word = codes "childPosToCell"; values = Number option.Position (pos position) ∷ Index option.Cell cell ∷ Number option.Resolution res ∷ []; others = [] }
-call_of command.CompactCells = record { word = codes "compactCells"; values = []; others = list_options }
-call_of (command.UncompactCells res) = record { word = codes "uncompactCells"; values = Number option.Resolution res ∷ []; others = list_options }
-call_of (command.UncompactCellsSize res) = record { word = codes "uncompactCellsSize"; values = Number option.Resolution res ∷ []; others = list_options }
-call_of command.UniteCells = record { word = codes "uniteCells"; values = []; others = list_options }
-call_of command.IntersectCells = record { word = codes "intersectCells"; values = []; others = region_options ++ list_options }
-call_of command.SubtractCells = record { word = codes "subtractCells"; values = []; others = region_options ++ list_options }
-call_of command.AreCoveredCells = record { word = codes "areCoveredCells"; values = []; others = region_options ++ line_options }
-call_of command.CellsToZones = record { word = codes "cellsToZones"; values = []; others = zone_options ++ name_options ++ line_options }
-call_of command.CountCellsInZones = record { word = codes "countCellsInZones"; values = []; others = zone_options ++ name_options ++ list_options }
-call_of (command.GridDiskUnsafe cell k) = record { word = codes "gridDiskUnsafe"; values = Index option.Cell cell ∷ Number option.Radius k ∷ []; others = option.Table ∷ [] }
-call_of (command.GridDiskDistancesUnsafe cell k) = record { word = codes "gridDiskDistancesUnsafe"; values = Index option.Cell cell ∷ Number option.Radius k ∷ []; others = option.Table ∷ [] }
-call_of (command.GridRingUnsafe cell k) = record { word = codes "gridRingUnsafe"; values = Index option.Cell cell ∷ Number option.Radius k ∷ []; others = option.Table ∷ [] }
-call_of (command.AreNeighborCells cell to) = record { word = codes "areNeighborCells"; values = Index option.Cell cell ∷ Index option.To to ∷ []; others = option.Table ∷ [] }
-call_of (command.CellsToDirectedEdge cell to) = record { word = codes "cellsToDirectedEdge"; values = Index option.Cell cell ∷ Index option.To to ∷ []; others = option.Table ∷ [] }
-call_of (command.IsValidDirectedEdge edge) = record { word = codes "isValidDirectedEdge"; values = Index option.Edge edge ∷ []; others = [] }
-call_of (command.GetDirectedEdgeOrigin edge) = record { word = codes "getDirectedEdgeOrigin"; values = Index option.Edge edge ∷ []; others = [] }
-call_of (command.GetDirectedEdgeDestination edge) = record { word = codes "getDirectedEdgeDestination"; values = Index option.Edge edge ∷ []; others = option.Table ∷ [] }
-call_of (command.OriginToDirectedEdges cell) = record { word = codes "originToDirectedEdges"; values = Index option.Cell cell ∷ []; others = [] }
+call_of (command.GetPentagons res) =
+    record { word = codes "getPentagons"; values = Number option.Resolution res ∷ []; others = [] }
+call_of (command.CellToParent cell res) =
+    record {
+      word = codes "cellToParent";
+      values = Index option.Cell cell ∷ Number option.Resolution res ∷ [];
+      others = [];
+    }
+call_of (command.CellToCenterChild cell res) =
+    record {
+      word = codes "cellToCenterChild";
+      values = Index option.Cell cell ∷ Number option.Resolution res ∷ [];
+      others = [];
+    }
+call_of (command.CellToLastChild cell res) =
+    record {
+      word = codes "cellToLastChild";
+      values = Index option.Cell cell ∷ Number option.Resolution res ∷ [];
+      others = [];
+    }
+call_of (command.CellToChildren cell res) =
+    record {
+      word = codes "cellToChildren";
+      values = Index option.Cell cell ∷ Number option.Resolution res ∷ [];
+      others = [];
+    }
+call_of (command.CellToChildrenSize cell res) =
+    record {
+      word = codes "cellToChildrenSize";
+      values = Index option.Cell cell ∷ Number option.Resolution res ∷ [];
+      others = [];
+    }
+call_of (command.CellToChildPos cell res) =
+    record {
+      word = codes "cellToChildPos";
+      values = Index option.Cell cell ∷ Number option.Resolution res ∷ [];
+      others = [];
+    }
+call_of (command.ChildPosToCell position cell res) =
+    record {
+      word = codes "childPosToCell";
+      values = Number option.Position (pos position) ∷ Index option.Cell cell ∷ Number option.Resolution res ∷ [];
+      others = [];
+    }
+call_of command.CompactCells = record { word = codes "compactCells"; values = []; others = by_options ++ list_options }
+call_of (command.UncompactCells res) =
+    record {
+      word = codes "uncompactCells";
+      values = Number option.Resolution res ∷ [];
+      others = by_options ++ list_options;
+    }
+call_of (command.UncompactCellsSize res) =
+    record { word = codes "uncompactCellsSize"; values = Number option.Resolution res ∷ []; others = list_options }
+call_of command.UniteCells = record { word = codes "uniteCells"; values = []; others = by_options ++ list_options }
+call_of command.IntersectCells =
+    record { word = codes "intersectCells"; values = []; others = region_options ++ list_options }
+call_of command.SubtractCells =
+    record { word = codes "subtractCells"; values = []; others = region_options ++ list_options }
+call_of command.AreCoveredCells =
+    record { word = codes "areCoveredCells"; values = []; others = region_options ++ line_options }
+call_of command.CellsToZones =
+    record {
+      word = codes "cellsToZones";
+      values = [];
+      others = zone_options ++ name_options ++ option.Overlapping ∷ line_options;
+    }
+call_of command.CountCellsInZones =
+    record {
+      word = codes "countCellsInZones";
+      values = [];
+      others = zone_options ++ name_options ++ sum_options ++ list_options;
+    }
+call_of (command.GridDiskUnsafe cell k) =
+    record {
+      word = codes "gridDiskUnsafe";
+      values = Index option.Cell cell ∷ Number option.Radius k ∷ [];
+      others = option.Table ∷ [];
+    }
+call_of (command.GridDiskDistancesUnsafe cell k) =
+    record {
+      word = codes "gridDiskDistancesUnsafe";
+      values = Index option.Cell cell ∷ Number option.Radius k ∷ [];
+      others = option.Table ∷ [];
+    }
+call_of (command.GridRingUnsafe cell k) =
+    record {
+      word = codes "gridRingUnsafe";
+      values = Index option.Cell cell ∷ Number option.Radius k ∷ [];
+      others = option.Table ∷ [];
+    }
+call_of (command.AreNeighborCells cell to) =
+    record {
+      word = codes "areNeighborCells";
+      values = Index option.Cell cell ∷ Index option.To to ∷ [];
+      others = option.Table ∷ [];
+    }
+call_of (command.CellsToDirectedEdge cell to) =
+    record {
+      word = codes "cellsToDirectedEdge";
+      values = Index option.Cell cell ∷ Index option.To to ∷ [];
+      others = option.Table ∷ [];
+    }
+call_of (command.IsValidDirectedEdge edge) =
+    record { word = codes "isValidDirectedEdge"; values = Index option.Edge edge ∷ []; others = [] }
+call_of (command.GetDirectedEdgeOrigin edge) =
+    record { word = codes "getDirectedEdgeOrigin"; values = Index option.Edge edge ∷ []; others = [] }
+call_of (command.GetDirectedEdgeDestination edge) =
+    record {
+      word = codes "getDirectedEdgeDestination";
+      values = Index option.Edge edge ∷ [];
+      others = option.Table ∷ [];
+    }
+call_of (command.OriginToDirectedEdges cell) =
+    record { word = codes "originToDirectedEdges"; values = Index option.Cell cell ∷ []; others = [] }
 call_of (command.ForEach each.IsValidCell) = record { word = codes "areValidCells"; values = []; others = line_options }
-call_of (command.ForEach each.IsValidDirectedEdge) = record { word = codes "areValidDirectedEdges"; values = []; others = line_options }
-call_of (command.ForEach each.GetResolution) = record { word = codes "getResolutions"; values = []; others = line_options }
-call_of (command.ForEach each.GetBaseCellNumber) = record { word = codes "getBaseCellNumbers"; values = []; others = line_options }
+call_of (command.ForEach each.IsValidDirectedEdge) =
+    record { word = codes "areValidDirectedEdges"; values = []; others = line_options }
+call_of (command.ForEach each.GetResolution) =
+    record { word = codes "getResolutions"; values = []; others = line_options }
+call_of (command.ForEach each.GetBaseCellNumber) =
+    record { word = codes "getBaseCellNumbers"; values = []; others = line_options }
 call_of (command.ForEach each.IsPentagon) = record { word = codes "arePentagons"; values = []; others = line_options }
-call_of (command.ForEach each.IsResClassIII) = record { word = codes "areResClassIII"; values = []; others = line_options }
-call_of (command.ForEach (each.CellToParent res)) = record { word = codes "cellsToParents"; values = Number option.Resolution res ∷ []; others = line_options }
-call_of (command.ForEach (each.CellToCenterChild res)) = record { word = codes "cellsToCenterChildren"; values = Number option.Resolution res ∷ []; others = line_options }
-call_of (command.ForEach (each.CellToLastChild res)) = record { word = codes "cellsToLastChildren"; values = Number option.Resolution res ∷ []; others = line_options }
-call_of (command.ForEach (each.CellToChildrenSize res)) = record { word = codes "cellsToChildrenSizes"; values = Number option.Resolution res ∷ []; others = line_options }
-call_of (command.ForEach (each.CellToChildPos res)) = record { word = codes "cellsToChildPositions"; values = Number option.Resolution res ∷ []; others = line_options }
-call_of (command.ForEach each.GetDirectedEdgeOrigin) = record { word = codes "getDirectedEdgeOrigins"; values = []; others = line_options }
-call_of (command.ForEach each.OriginToDirectedEdges) = record { word = codes "originsToDirectedEdges"; values = []; others = line_options }
-call_of (command.CellsToChildren res) = record { word = codes "cellsToChildren"; values = Number option.Resolution res ∷ []; others = line_options }
-call_of (command.GridDisksUnsafe k) = record { word = codes "gridDisksUnsafe"; values = Number option.Radius k ∷ []; others = option.Table ∷ line_options }
-call_of (command.GridDisksDistancesUnsafe k) = record { word = codes "gridDisksDistancesUnsafe"; values = Number option.Radius k ∷ []; others = option.Table ∷ line_options }
-call_of (command.GridRingsUnsafe k) = record { word = codes "gridRingsUnsafe"; values = Number option.Radius k ∷ []; others = option.Table ∷ line_options }
-call_of command.GetDirectedEdgeDestinations = record { word = codes "getDirectedEdgeDestinations"; values = []; others = option.Table ∷ line_options }
+call_of (command.ForEach each.IsResClassIII) =
+    record { word = codes "areResClassIII"; values = []; others = line_options }
+call_of (command.ForEach (each.CellToParent res)) =
+    record { word = codes "cellsToParents"; values = Number option.Resolution res ∷ []; others = line_options }
+call_of (command.ForEach (each.CellToCenterChild res)) =
+    record { word = codes "cellsToCenterChildren"; values = Number option.Resolution res ∷ []; others = line_options }
+call_of (command.ForEach (each.CellToLastChild res)) =
+    record { word = codes "cellsToLastChildren"; values = Number option.Resolution res ∷ []; others = line_options }
+call_of (command.ForEach (each.CellToChildrenSize res)) =
+    record { word = codes "cellsToChildrenSizes"; values = Number option.Resolution res ∷ []; others = line_options }
+call_of (command.ForEach (each.CellToChildPos res)) =
+    record { word = codes "cellsToChildPositions"; values = Number option.Resolution res ∷ []; others = line_options }
+call_of (command.ForEach each.GetDirectedEdgeOrigin) =
+    record { word = codes "getDirectedEdgeOrigins"; values = []; others = line_options }
+call_of (command.ForEach each.OriginToDirectedEdges) =
+    record { word = codes "originsToDirectedEdges"; values = []; others = line_options }
+call_of (command.CellsToChildren res) =
+    record { word = codes "cellsToChildren"; values = Number option.Resolution res ∷ []; others = line_options }
+call_of (command.GridDisksUnsafe k) =
+    record {
+      word = codes "gridDisksUnsafe";
+      values = Number option.Radius k ∷ [];
+      others = option.Table ∷ line_options;
+    }
+call_of (command.GridDisksDistancesUnsafe k) =
+    record {
+      word = codes "gridDisksDistancesUnsafe";
+      values = Number option.Radius k ∷ [];
+      others = option.Table ∷ line_options;
+    }
+call_of (command.GridRingsUnsafe k) =
+    record {
+      word = codes "gridRingsUnsafe";
+      values = Number option.Radius k ∷ [];
+      others = option.Table ∷ line_options;
+    }
+call_of command.GetDirectedEdgeDestinations =
+    record { word = codes "getDirectedEdgeDestinations"; values = []; others = option.Table ∷ line_options }
 
 -- a command's word and its options
 pub record Entry : Type 0 where

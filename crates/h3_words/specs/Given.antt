@@ -29,7 +29,9 @@ by_long (Some name) word = option_and_then long_value (after (codes "--" ++ name
 
 -- these begin with the character c: the value after it, if any
 abbrev pub by_character : ℕ → Text → Option (Option Text)
-by_character c flags = option_map_or (λ first. if c == first then Some (short_value (drop 1 flags)) else None) (slice_get (chars flags) 0) None
+by_character c flags =
+    option_map_or (λ first. if c == first then Some (short_value (drop 1 flags)) else None)
+    (slice_get (chars flags) 0) None
 
 -- the word is `-n`, `-nvalue` or `-n=value`: the value, if any
 abbrev pub by_short : Option ℕ → Text → Option (Option Text)

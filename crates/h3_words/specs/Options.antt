@@ -71,6 +71,11 @@ option_entry option.ZoneField = number_of_field (codes "zone-field") (codes "zon
 option_entry option.ZoneName = of_rows (codes "zone-name") (codes "zone-name")
 option_entry option.ZoneNameField = number_of_field (codes "name-field") (codes "zone-name-field")
 option_entry option.NoZone = of_rows (codes "text") (codes "none")
+option_entry option.Overlapping = record (of_rows (codes "overlapping") (codes "overlapping")) { is_flag = true }
+option_entry option.Sum = of_rows (codes "sum") (codes "sum")
+option_entry option.SumField = number_of_field (codes "sum-field") (codes "sum-field")
+option_entry option.By = of_rows (codes "by") (codes "by")
+option_entry option.ByField = number_of_field (codes "by-field") (codes "by-field")
 
 -- the option's id in `clap`
 abbrev pub id_of : CommandOption → Text

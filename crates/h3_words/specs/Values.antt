@@ -34,12 +34,13 @@ IsValue text (Number o value) = IsNumber o (text o) value
 abbrev pub HasValues : (CommandOption → Option Text) → Command → Type 0
 HasValues text c = All (IsValue text) (values_of_command c)
 
--- what is read of what a parse found for the value's option, where the option's parser accepted it. Private contracts and
--- proofs alone cite it.
+-- what is read of what a parse found for the value's option, where the option's parser accepted it. Private contracts
+-- and proofs alone cite it.
 abbrev pub IsRead : Found → Value → Type 0
 IsRead found (Index o index) = (text : Text) → first_value found (id_of o) ≡ Some text → index ≡ parsed_index text
 IsRead found (Number o number) =
-    (text : Text) → first_value found (id_of o) ≡ Some text → Accepts false (parser_done o) text → number ≡ signed_digits_value 10 text
+    (text : Text) → first_value found (id_of o) ≡ Some text → Accepts false (parser_done o) text
+    → number ≡ signed_digits_value 10 text
 
 -- each value is read for an option that the command requires. Private contracts and proofs alone cite it.
 abbrev pub AreRead : Command → Found → List Value → Type 0
@@ -47,8 +48,8 @@ AreRead k found [] = ⊤
 AreRead k found (v ∷ vs) =
     (has_option k (option_of v) ≡ true) × (is_required (option_of v) ≡ true) × IsRead found v × AreRead k found vs
 
--- where the command has the option, the option's text is the path, and where it does not there is none. Private contracts
--- and proofs alone cite it.
+-- where the command has the option, the option's text is the path, and where it does not there is none. Private
+-- contracts and proofs alone cite it.
 abbrev pub HasPath : (CommandOption → Option Text) → Command → CommandOption → Option Text → Type 0
 HasPath text k o path = MatchBool (has_option k o) (path ≡ text o) (path ≡ None)
 

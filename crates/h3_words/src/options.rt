@@ -89,6 +89,22 @@ pub enum CommandOption {
 
     /// `--none`: what is written for a cell in no zone, if the zones have names.
     NoZone,
+
+    /// `--overlapping`: zones with names may overlap.
+    Overlapping,
+
+    /// `--sum`: the column of the list's rows that is added up, by its name in the header.
+    Sum,
+
+    /// `--sum-field`: the same; the number of that field, counted from 1.
+    SumField,
+
+    /// `--by`: the column that divides the list's rows, with one list for each of its values, by its name
+    /// in the header.
+    By,
+
+    /// `--by-field`: the same; the number of that field, counted from 1.
+    ByField,
 }
 
 /// A file that a command names by an option: its kind, and its path as it is given.
@@ -275,6 +291,21 @@ macro_rules! options {
             NoZone
                 [of_rows!("text", "none", false, "With names: text for a cell in no zone")]
                 ("TEXT", "the text for a cell in no zone", "text:");
+            Overlapping
+                [of_rows!("overlapping", "overlapping", true, "With names: zones may overlap")]
+                ("zones may overlap");
+            Sum
+                [of_rows!("sum", "sum", false, "With names and a header: column to add up")]
+                ("NAME", "the name of the column to add up", "name:");
+            SumField
+                [number_of_field!("sum-field", "sum-field", "With names and --field: field to add up")]
+                ("N", "the number of the field to add up", "number:");
+            By
+                [of_rows!("by", "by", false, "With a header: split by this column")]
+                ("NAME", "the name of the column to split by", "name:");
+            ByField
+                [number_of_field!("by-field", "by-field", "With --field: split by this field")]
+                ("N", "the number of the field to split by", "number:");
         }
     };
 }

@@ -2,9 +2,9 @@
 
 ghost use Rattle.std.specs.Prelude.{◌≡◌, ◌==◌, ◌||◌, [], IfOk, IfSome, Some, option_map, pos, string_bytes, true, unwrap_or};
 ghost use Rattle.clap.specs.Words.{found_of};
-ghost use Rattle.h3_requests.specs.Rows.{is_counted, is_plain_field, is_separator};
+ghost use Rattle.h3_requests.specs.Rows.{is_counted_if, is_plain_field, is_separator};
 ghost use Rattle.h3_words.specs.Options.{number_from, number_up_to};
-ghost use Rattle.h3_words.specs.Rows.{HasAreas, HasFieldBy, HasFileField, HasFileOfCells, HasFileRows, HasRows, HasTables, cuts_errors, cuts_rows, file_has_rows, fits, found_texts, has_company, has_names, is_one_field, list_has_rows, named_separator, names_fields_once, names_fit, names_have_company, rows_agree, separator_of};
+ghost use Rattle.h3_words.specs.Rows.{HasAreas, HasFieldBy, HasFileField, HasFileOfCells, HasFileRows, HasRows, HasTables, cuts_errors, cuts_rows, cuts_sums, file_has_rows, fits, found_texts, has_company, has_names, is_named_once, is_one_field, list_has_rows, named_separator, names_fields_once, names_fit, names_have_company, rows_agree, second_has_company, seconds_have_company, separator_of};
 ghost use Rattle.h3_words.specs.Values.{IsAccepted};
 ghost use Rattle.h3_words.specs.declared.options.CommandOption.TheVariants.{As, Field, NoZone, RegionField, ZoneField, ZoneNameField};
 ghost use Rattle.h3_words.specs.declared.options.CommandOption.{CommandOption};
@@ -22,7 +22,7 @@ static OF_ROWS: [(CommandOption, &str); 2] = [
 
 /// The options of the number and of the name of a field, of which one may be given, as a usage shows
 /// them.
-static OF_A_FIELD: [(CommandOption, CommandOption, &str, &str); 4] = [
+static OF_A_FIELD: [(CommandOption, CommandOption, &str, &str); 6] = [
     (Field, Column, "--field <number>", "--column <column>"),
     (
         RegionField,
@@ -42,10 +42,30 @@ static OF_A_FIELD: [(CommandOption, CommandOption, &str, &str); 4] = [
         "--zone-name-field <name-field>",
         "--zone-name <zone-name>",
     ),
+    (SumField, Sum, "--sum-field <sum-field>", "--sum <sum>"),
+    (ByField, By, "--by-field <by-field>", "--by <by>"),
+];
+
+/// The options of the number and of the name of a second field of the list's rows, as a usage shows
+/// them.
+static OF_SECOND_FIELDS: [(CommandOption, CommandOption, &str, &str); 2] = [
+    (SumField, Sum, "--sum-field <sum-field>", "--sum <sum>"),
+    (ByField, By, "--by-field <by-field>", "--by <by>"),
+];
+
+/// The options that go with names of zones, as a usage shows them.
+static OF_NAMES: [(CommandOption, &str); 4] = [
+    (NoZone, "--none <text>"),
+    (Overlapping, "--overlapping"),
+    (Sum, "--sum <sum>"),
+    (SumField, "--sum-field <sum-field>"),
 ];
 
 /// The options that go with a header, as a usage shows them.
 static OF_A_HEADER: [(CommandOption, &str); 2] = [(As, "--as <name>"), (Ragged, "--ragged")];
+
+/// The options by which a list has a header, as a usage shows them.
+const HEADER: &str = "'--column <column>' or '--header'";
 
 /// The options by which a list has rows, as a usage shows them.
 const FIELDS: &str = "'--field <number>' or '--column <column>'";
@@ -75,6 +95,9 @@ const NO_TEXT: &str = "the text of a cell in no zone has no separator, double qu
 
 /// Why a separator does not go with `--errors`.
 const NO_ERRORS: &str = "the names of --errors have an underscore";
+
+/// Why a separator does not go with `--sum`.
+const NO_SUMS: &str = "a sum may have a point";
 
 /// The separator that the text of `--separator` names, if it names one.
 fn named_separator(text: &[u8]) -> Option<u8>
@@ -130,12 +153,20 @@ fn cuts_errors(matches: &ArgMatches<'_>, separator: u8) -> bool
     Errors.is_given(matches) && separator == b'_'
 }
 
-/// Whether a separator does not cut the names of errors, the name of the new column and the text of
-/// `--none`.
+/// Whether a field is added up, and this separator cuts sums.
+fn cuts_sums(matches: &ArgMatches<'_>, separator: u8) -> bool
+    ensures { result ≡ cuts_sums (found_texts (found_of matches.now)) separator }
+{
+    (Sum.is_given(matches) || SumField.is_given(matches)) && separator == b'.'
+}
+
+/// Whether a separator does not cut the names of errors, sums, the name of the new column and the text
+/// of `--none`.
 fn fits(matches: &ArgMatches<'_>, separator: u8) -> bool
     ensures { result ≡ fits (found_texts (found_of matches.now)) separator }
 {
     !cuts_errors(matches, separator)
+        && !cuts_sums(matches, separator)
         && is_one_field(As, matches, separator)
         && is_one_field(NoZone, matches, separator)
 }
@@ -172,15 +203,23 @@ fn has_names(matches: &ArgMatches<'_>) -> bool
     ZoneNameField.is_given(matches) || ZoneName.is_given(matches)
 }
 
+/// Whether a field is not named by its number and by its name.
+fn is_named_once(number: CommandOption, column: CommandOption, matches: &ArgMatches<'_>) -> bool
+    ensures { result ≡ is_named_once (found_texts (found_of matches.now)) number column }
+{
+    !(number.is_given(matches) && column.is_given(matches))
+}
+
 /// Whether no field is named by its number and by its name.
 fn names_fields_once(matches: &ArgMatches<'_>) -> bool
     ensures { result ≡ names_fields_once (found_texts (found_of matches.now)) }
 {
-    let list = Field.is_given(matches) && Column.is_given(matches);
-    let region = RegionField.is_given(matches) && RegionColumn.is_given(matches);
-    let zones = ZoneField.is_given(matches) && ZoneColumn.is_given(matches);
-    let names = ZoneNameField.is_given(matches) && ZoneName.is_given(matches);
-    !list && !region && !zones && !names
+    is_named_once(Field, Column, matches)
+        && is_named_once(RegionField, RegionColumn, matches)
+        && is_named_once(ZoneField, ZoneColumn, matches)
+        && is_named_once(ZoneNameField, ZoneName, matches)
+        && is_named_once(SumField, Sum, matches)
+        && is_named_once(ByField, By, matches)
 }
 
 /// Whether what says how rows are cut goes with rows, of the list or of the file.
@@ -216,9 +255,33 @@ fn names_have_company(matches: &ArgMatches<'_>) -> bool
     let column = ZoneColumn.is_given(matches);
     let field = ZoneField.is_given(matches);
     let names = has_names(matches);
+    let text = NoZone.is_given(matches);
+    let overlapping = Overlapping.is_given(matches);
+    let sums = Sum.is_given(matches) || SumField.is_given(matches);
     (!ZoneName.is_given(matches) || column)
         && (!ZoneNameField.is_given(matches) || field)
-        && (!NoZone.is_given(matches) || names)
+        && (!(text || overlapping) || names)
+        && (!sums || names)
+}
+
+/// Whether the options of a second field of the list's rows have what they go with.
+fn second_has_company(
+    number: CommandOption,
+    column: CommandOption,
+    matches: &ArgMatches<'_>,
+) -> bool
+    ensures { result ≡ second_has_company (found_texts (found_of matches.now)) number column }
+{
+    let has_header = Column.is_given(matches) || Header.is_given(matches);
+    (!column.is_given(matches) || has_header)
+        && (!number.is_given(matches) || Field.is_given(matches))
+}
+
+/// Whether the options of each second field of the list's rows have what they go with.
+fn seconds_have_company(matches: &ArgMatches<'_>) -> bool
+    ensures { result ≡ seconds_have_company (found_texts (found_of matches.now)) }
+{
+    second_has_company(SumField, Sum, matches) && second_has_company(ByField, By, matches)
 }
 
 /// Whether no field is named twice, and each option of rows has what it goes with, and names what it
@@ -230,6 +293,7 @@ pub(crate) fn rows_agree(matches: &ArgMatches<'_>) -> bool
         && cuts_rows(matches)
         && has_company(matches)
         && names_have_company(matches)
+        && seconds_have_company(matches)
         && names_fit(matches)
 }
 
@@ -294,8 +358,25 @@ fn first_name_alone(matches: &ArgMatches<'_>) -> Option<(&'static str, &'static 
             "'--zone-field <zone-field>'",
         ));
     }
-    if NoZone.is_given(matches) && !has_names(matches) {
-        return Some(("--none <text>", NAMES));
+    if !has_names(matches) {
+        if let Some(shown) = first_given(matches, &OF_NAMES) {
+            return Some((shown, NAMES));
+        }
+    }
+    None
+}
+
+/// The first option of a second field that is given without what it goes with, and that, as a usage
+/// shows them.
+fn first_second_alone(matches: &ArgMatches<'_>) -> Option<(&'static str, &'static str)> {
+    let has_header = Column.is_given(matches) || Header.is_given(matches);
+    for (number, column, shown, other) in &OF_SECOND_FIELDS {
+        if column.is_given(matches) && !has_header {
+            return Some((*other, HEADER));
+        }
+        if number.is_given(matches) && !Field.is_given(matches) {
+            return Some((*shown, "'--field <number>'"));
+        }
     }
     None
 }
@@ -317,13 +398,13 @@ fn first_alone(matches: &ArgMatches<'_>) -> Option<(&'static str, &'static str)>
     }
     if !Column.is_given(matches) && !Header.is_given(matches) {
         if let Some(shown) = first_given(matches, &OF_A_HEADER) {
-            return Some((shown, "'--column <column>' or '--header'"));
+            return Some((shown, HEADER));
         }
     }
     if Errors.is_given(matches) && !KeepGoing.is_given(matches) {
         return Some(("--errors", "'--keep-going'"));
     }
-    first_name_alone(matches)
+    first_name_alone(matches).or(first_second_alone(matches))
 }
 
 /// What is wrong with the options of rows, where they do not agree: the first rule that is broken.
@@ -339,6 +420,7 @@ fn broken_rule(alloc: Global, matches: &ArgMatches<'_>) -> Result<String, AllocE
         Some(byte) if cuts_errors(matches, byte) => {
             (Separator, "--separator <separator>", NO_ERRORS)
         }
+        Some(byte) if cuts_sums(matches, byte) => (Separator, "--separator <separator>", NO_SUMS),
         Some(byte) if !is_one_field(As, matches, byte) => (As, "--as <name>", NO_NAME),
         Some(_) => (NoZone, "--none <text>", NO_TEXT),
     };
@@ -366,7 +448,7 @@ fn field_by(
 ) -> Result<Option<CellField>, AllocError>
     requires least { number_from number ≡ pos 1 }
     requires most { number_up_to number ≡ Some (pos 65535) }
-    ensures counted { IfOk result (λ field. IfSome field (λ field. is_counted field ≡ true)) }
+    ensures counted { IfOk result (λ field. is_counted_if field ≡ true) }
     ensures read { IfOk result (λ field.
         IsAccepted number (found_texts (found_of matches.now) number)
         → HasFieldBy (found_texts (found_of matches.now)) number column field) }
@@ -384,7 +466,7 @@ fn field_by(
 ///
 /// [`AllocError`] if there is no memory for its name.
 fn file_field(alloc: Global, matches: &ArgMatches<'_>) -> Result<Option<CellField>, AllocError>
-    ensures counted { IfOk result (λ field. IfSome field (λ field. is_counted field ≡ true)) }
+    ensures counted { IfOk result (λ field. is_counted_if field ≡ true) }
     ensures read { IfOk result (λ field.
         IsAccepted RegionField (found_texts (found_of matches.now) RegionField)
         → IsAccepted ZoneField (found_texts (found_of matches.now) ZoneField)
@@ -509,6 +591,7 @@ fn area_options(alloc: Global, matches: &ArgMatches<'_>) -> Result<Option<AreaOp
     Ok(Some(AreaOptions {
         table: TableOptions { rows, name },
         none,
+        overlapping: Overlapping.is_given(matches),
     }))
 }
 
@@ -522,6 +605,8 @@ pub(crate) fn tables(alloc: Global, matches: &ArgMatches<'_>) -> Result<Tables, 
 {
     Ok(Tables {
         list: row_options(alloc, matches)?,
+        sum: field_by(alloc, SumField, Sum, matches)?,
+        by: field_by(alloc, ByField, By, matches)?,
         file: cell_options(alloc, matches)?,
         areas: area_options(alloc, matches)?,
     })

@@ -184,29 +184,39 @@ macro_rules! commands {
                     usage: Some("h3 childPosToCell --position <position> -c <cell> -r <resolution>"),
                 };
             (CompactCells)
-                { word: "compactCells", options: with_list_options!() }
+                { word: "compactCells", options: with_list_options!(By, ByField) }
                 [lists "compactCells                Compact a list of cells"]
                 {
                     about: "Compact the list of cells on standard input, of any resolutions",
                     notes: "A complete set of siblings becomes its parent. If cells overlap: uniteCells.\n\
                         An error is reported without a line; with --field 1, error 1 or 5 has its line.\n\
+                        With --by or --by-field there is a list for each value of that column, in the\n\
+                        order of their first rows: each line is a row of the value and a cell.\n\
+                        Error 10 then has the line of the first row with its value.\n\
                         Errors: 1 not an index, 5 not a valid cell, 10 overlapping cells\n\
                         Example: h3 compactCells < cells\n\
                         Of a CSV file, whose cells are the list:\n\
-                        h3 compactCells --csv --column cell < trips.csv",
+                        h3 compactCells --csv --column cell < trips.csv\n\
+                        One list for each value of a column:\n\
+                        h3 compactCells --csv --column cell --by driver < trips.csv",
                     usage: Some("h3 compactCells < cells"),
                 };
             (UncompactCells { res })
-                { word: "uncompactCells", options: with_list_options!(Resolution) }
+                { word: "uncompactCells", options: with_list_options!(Resolution, By, ByField) }
                 [lists "uncompactCells              The descendants of the cells at a resolution"]
                 {
                     about: "The descendants at a resolution of each cell listed on standard input",
                     notes: "An error is reported without a line; with --field 1, error 1 or 5 has its line.\n\
+                        With --by or --by-field there is a list for each value of that column, in the\n\
+                        order of their first rows: each line is a row of the value and a cell.\n\
+                        Error 4 or 12 then has the line of the first row with its value.\n\
                         Errors: 1 not an index, 5 not a valid cell, 4 not a resolution,\n\
                         12 a resolution coarser than a cell's\n\
                         Example: h3 uncompactCells -r 6 < cells\n\
                         Of a CSV file, whose cells are the list:\n\
-                        h3 uncompactCells -r 6 --csv --column cell < trips.csv",
+                        h3 uncompactCells -r 6 --csv --column cell < trips.csv\n\
+                        One list for each value of a column:\n\
+                        h3 uncompactCells -r 6 --csv --column cell --by driver < trips.csv",
                     usage: Some("h3 uncompactCells --resolution <resolution> < cells"),
                 };
             (UncompactCellsSize { res })
@@ -223,14 +233,18 @@ macro_rules! commands {
                     usage: Some("h3 uncompactCellsSize --resolution <resolution> < cells"),
                 };
             (UniteCells)
-                { word: "uniteCells", options: with_list_options!() }
+                { word: "uniteCells", options: with_list_options!(By, ByField) }
                 [lists "uniteCells                  Union of the cells, compacted"]
                 {
                     about: "Union of the cells on standard input, compacted; they may repeat and overlap",
-                    notes: "Errors: 1 not an index, 5 not a valid cell\n\
+                    notes: "With --by or --by-field there is a list for each value of that column, in the\n\
+                        order of their first rows: each line is a row of the value and a cell.\n\
+                        Errors: 1 not an index, 5 not a valid cell\n\
                         Example: h3 uniteCells < cells\n\
                         Of a CSV file, whose cells are the list:\n\
-                        h3 uniteCells --csv --column cell < trips.csv",
+                        h3 uniteCells --csv --column cell < trips.csv\n\
+                        One list for each value of a column:\n\
+                        h3 uniteCells --csv --column cell --by driver < trips.csv",
                     usage: Some("h3 uniteCells < cells"),
                 };
             (IntersectCells)
@@ -293,7 +307,9 @@ macro_rules! commands {
             (CellsToZones)
                 {
                     word: "cellsToZones",
-                    options: with_line_options!(Zones, ZoneColumn, ZoneField, ZoneName, ZoneNameField, NoZone)
+                    options: with_line_options!(
+                        Zones, ZoneColumn, ZoneField, ZoneName, ZoneNameField, NoZone, Overlapping
+                    )
                 }
                 [lists "cellsToZones                The zone of each cell"]
                 {
@@ -301,7 +317,8 @@ macro_rules! commands {
                     notes: "The zone of a cell is the one that is the cell or its ancestor.\n\
                         With --zone-name or --zone-name-field the answer is the zone's name, and for a\n\
                         cell in no zone the text of --none (default: nothing). The cells of one name\n\
-                        may overlap.\n\
+                        may overlap. With --overlapping, zones may too: a cell has an answer for each\n\
+                        of its zones, coarse ones first, and its row is printed once for each.\n\
                         With --zone-column the file is a table with a header, with --zone-field one\n\
                         without. Its errors:\n\
                         \x20 zones: line 2: error 5: E_CELL_INVALID  its first faulty line, status 1\n\
@@ -321,7 +338,9 @@ macro_rules! commands {
             (CountCellsInZones)
                 {
                     word: "countCellsInZones",
-                    options: with_list_options!(Zones, ZoneColumn, ZoneField, ZoneName, ZoneNameField, NoZone)
+                    options: with_list_options!(
+                        Zones, ZoneColumn, ZoneField, ZoneName, ZoneNameField, NoZone, Sum, SumField
+                    )
                 }
                 [lists "countCellsInZones           Count the cells in each zone"]
                 {
@@ -331,6 +350,9 @@ macro_rules! commands {
                         With --zone-name or --zone-name-field each row has a zone's name and its count,\n\
                         in the order of the file, under a header if the file or the list has one; the\n\
                         last has the text of --none (default: nothing).\n\
+                        With names and --sum or --sum-field each row ends with the exact sum of that\n\
+                        column over the cells that it counts; a blank field is 0:\n\
+                        \x20 line 2: sum: not a number               its first bad number, status 1\n\
                         With --zone-column the file is a table with a header, with --zone-field one\n\
                         without. Its errors:\n\
                         \x20 zones: line 2: error 5: E_CELL_INVALID  its first faulty line, status 1\n\

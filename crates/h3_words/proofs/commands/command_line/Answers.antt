@@ -14,7 +14,10 @@ loop-command-init c = ap app_of_fields c.disable_help_subcommand-parser.ensures
 
 pub loop-command-preserved : goal.loop-command-preserved
 loop-command-preserved c = let made = c.in_ok-parser.ensures in let inner = c.in_ok-parser_of.ensures in
-    made.shape inner.local ∙ ap₂ with_subcommand c.loop-command.invariant inner.shape ∙ sym (fold_more with_command bare_app _ _ (IsValidCell None) c.loop-command-test.true)
+    made.shape inner.local ∙ ap₂ with_subcommand c.loop-command.invariant inner.shape
+    ∙ sym (fold_more with_command bare_app _ _ (IsValidCell None) c.loop-command-test.true)
 
 pub returns : goal.returns
-returns c = c.loop-command.invariant ∙ ap (fold with_command bare_app) (take_all _ _ c.loop-command-test.false) ∙ all_commands c.args.commands.now
+returns c =
+    c.loop-command.invariant ∙ ap (fold with_command bare_app) (take_all _ _ c.loop-command-test.false)
+    ∙ all_commands c.args.commands.now

@@ -12,10 +12,13 @@ pub loop-option-preserved : goal.loop-option-preserved
 loop-option-preserved c =
     let old = c.loop-option.invariant in
     let made = c.in_ok-parser.ensures in (
-      made.shape c.argument.ensures.local ∙ ap₂ with_rule old.0 c.argument.ensures.rule ∙ leaf_more _ c.options-option-items.result.now _ Cell c.loop-option-test.true,
+      made.shape c.argument.ensures.local ∙ ap₂ with_rule old.0 c.argument.ensures.rule
+          ∙ leaf_more _ c.options-option-items.result.now _ Cell c.loop-option-test.true,
       made.globals ∙ ap₂ (λ (a b : Bool). a || b) old.1 c.argument.ensures.local,
     )
 
 pub returns-clause-shape : goal.returns-clause-shape
 returns-clause-shape c =
-    ap (λ (a : App). a.top) c.loop-option.invariant.0 ∙ ap (leaf_with (word_of c.args.command)) (take_all _ _ c.loop-option-test.false ∙ c.options-option-items.ensures)
+    ap (λ (a : App). a.top) c.loop-option.invariant.0
+    ∙ ap (leaf_with (word_of c.args.command))
+    (take_all _ _ c.loop-option-test.false ∙ c.options-option-items.ensures)

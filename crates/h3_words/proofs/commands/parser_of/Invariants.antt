@@ -6,4 +6,6 @@ use Rattle.h3_words.proofs.Building.{leaf_app}
 use Rattle.h3_words.proofs.commands.parser_of.Given as goal
 
 abbrev pub invariant-loop-option : goal.invariant-loop-option
-invariant-loop-option l = (app_of l.parser ≡ leaf_app (word_of l.fn.command) (take l.option-index l.option-items)) × ((out-Command l.parser).has_globals ≡ false)
+invariant-loop-option l =
+    (app_of l.parser ≡ leaf_app (word_of l.fn.command) (take l.option-index l.option-items))
+    × ((out-Command l.parser).has_globals ≡ false)

@@ -18,9 +18,11 @@ returns-in_default-2 c = λ agree region zone names.
 pub returns : goal.returns
 returns c = λ agree region zone names.
     let text = found_texts (found_of c.args.matches.now) in
-    let rows : AreFileOptions text c.in-Some-2.rows = subst (HasFileRows text) c.in-Some-2.is (c.in_ok-rows.ensures agree region zone) in
+    let rows : AreFileOptions text c.in-Some-2.rows =
+    subst (HasFileRows text) c.in-Some-2.is (c.in_ok-rows.ensures agree region zone) in
     record {
       rows = rows;
       name = subst (HasFieldBy text ZoneNameField ZoneName) c.in-Some.is (c.in_ok-name.ensures.read names);
       none = c.in_ok-none.ensures.read (none_fits text c.in-Some-2.rows.separator rows.separator agree);
+      overlapping = c.is_given.ensures;
     }

@@ -8,7 +8,9 @@ pub returns : goal.returns
 returns c agree accepted = record {
   field = search (rules, c.in_ok-field.ensures.read accepted, c.in-Some.is);
   header = search (rules, c.if-is_given.branch);
-  separator = ap (λ b. Some b) c.unwrap_or.ensures ∙ agreed_separator (found_texts (found_of c.args.matches.now)) c.separator.result c.separator.ensures.named agree;
+  separator =
+      ap (λ b. Some b) c.unwrap_or.ensures
+      ∙ agreed_separator (found_texts (found_of c.args.matches.now)) c.separator.result c.separator.ensures.named agree;
   quotes = search (rules);
   name = search (rules);
   keeps_going = search (rules);

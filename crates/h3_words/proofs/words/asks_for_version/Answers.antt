@@ -9,7 +9,8 @@ use Rattle.h3_words.specs.Version.{asks_version, names_version}
 use Rattle.h3_words.proofs.words.asks_for_version.Goals as goal
 
 -- what the second of the words asks for
-asked : {A : Type 0} (v : A → Text) (xs : List A) (found : Option A) → slice_get xs 1 ≡ found → asks_version (map v xs) ≡ option_map_or (λ x. names_version (v x)) found false
+asked : {A : Type 0} (v : A → Text) (xs : List A) (found : Option A) → slice_get xs 1 ≡ found
+    → asks_version (map v xs) ≡ option_map_or (λ x. names_version (v x)) found false
 asked v xs None e = ap (λ o. option_map_or names_version o false) (slice_get-map v xs 1 ∙ ap (option_map v) e)
 asked v xs (Some x) e = ap (λ o. option_map_or names_version o false) (slice_get-map v xs 1 ∙ ap (option_map v) e)
 
@@ -27,7 +28,8 @@ pub returns-in_default : goal.returns-in_default
 returns-in_default c =
     let other = neither c.as_str.result.now c.in_default.not-text c.in_default.not-text-2 in
     let found = slice_get_read c.args.words.now _ 1 c.in-Some.word.now refl (search rules) (search rules) in
-    sym (asked string_bytes c.args.words.now (Some c.in-Some.word.now) found ∙ ap names_version (sym c.as_str.ensures.value) ∙ other)
+    sym (asked string_bytes c.args.words.now (Some c.in-Some.word.now) found
+    ∙ ap names_version (sym c.as_str.ensures.value) ∙ other)
 
 pub returns-in-None : goal.returns-in-None
 returns-in-None c = sym (asked string_bytes c.args.words.now None (slice_get_past c.args.words.now 1 (search rules)))

@@ -6,4 +6,5 @@ use Rattle.h3_words.proofs.words.read_words.Goals as goal
 
 pub returns-clause-agreed : goal.returns-clause-agreed
 returns-clause-agreed c =
-    subst (λ words. OnOk c.parse_words.result (rows_agree (λ option. given option (drop 2 (map string_bytes words))) ≡ true)) c.as_slice-2.ensures.value c.parse_words.ensures.agreed
+    subst (λ words. OnOk c.parse_words.result (rows_agree (λ option. given option (drop 2 (map string_bytes words)))
+    ≡ true)) c.as_slice-2.ensures.value c.parse_words.ensures.agreed
