@@ -20,8 +20,8 @@ module _ {O F : Type 0} where
   abbrev pub named_left : (F → Option (List ℕ)) → NamedFile O F → Option (List ℕ)
   named_left left f = option_and_then left f.file
 
-  -- IsOpenedAt left bytes_at old path new: the file at the path is open, and has the bytes left that are at this path; nothing
-  -- else has changed
+  -- IsOpenedAt left bytes_at old path new: the file at the path is open, and has the bytes left that are at this path;
+  -- nothing else has changed
   pub record IsOpenedAt (left : F → Option (List ℕ)) (bytes_at : O → List ℕ → Option (List ℕ) → Type 0) (old : NamedFile O F) (path : List ℕ) (new : NamedFile O F) : Type 0 where
     pub is_open : IsSome (named_file new)
     pub bytes : bytes_at (named_files old) path (named_left left new)

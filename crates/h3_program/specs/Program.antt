@@ -24,8 +24,8 @@ pub record Change (S : Type 0) : Type 0 where
 abbrev pub IsUntouched : {S : Type 0} → Change S → Type 0
 IsUntouched stream = stream.new ≡ stream.old
 
--- the states of a file right after an opening of a path that succeeds, and after one that fails; and its use as a source
--- from one state to another
+-- the states of a file right after an opening of a path that succeeds, and after one that fails; and its use as a
+-- source from one state to another
 pub record Files (F : Type 0) : Type 1 where
   pub opens : F → List ℕ → F → Type 0
   pub fails_to_open : F → List ℕ → F → Type 0
@@ -45,7 +45,8 @@ open_line (named.Zones path) = codes "zones: open" ++ 10 ∷ []
 
 -- a line goes to standard error, or a beginning of it where that fails
 abbrev pub WritesLine : List ℕ → SinkUse → Type 0
-WritesLine line err = AppendsPart err.before err.after line × (err.has_failed ≡ false → Appends err.before err.after line)
+WritesLine line err =
+    AppendsPart err.before err.after line × (err.has_failed ≡ false → Appends err.before err.after line)
 
 -- an error line says that the file cannot be opened, the status is 3, and nothing is run
 pub record CannotOpen {R : Type 0} (f : CommandFile) (status : ℕ) (input : Change R) (s : Streams) : Type 0 where
@@ -54,9 +55,10 @@ pub record CannotOpen {R : Type 0} (f : CommandFile) (status : ℕ) (input : Cha
   pub silent : IsLeft s.out
   pub input_kept : IsUntouched input
 
--- RunsCommand: a command without a file is run; one with a file is run over a state that comes right after an opening by its
--- path, or the opening fails, and nothing is run
-abbrev pub RunsCommand : {R F : Type 0} → Files F → Option CommandFile → Request → ℕ → Change R → Change F → Streams → Type 0
+-- RunsCommand: a command without a file is run; one with a file is run over a state that comes right after an opening
+-- by its path, or the opening fails, and nothing is run
+abbrev pub RunsCommand : {R F : Type 0} → Files F → Option CommandFile → Request → ℕ → Change R → Change F → Streams
+    → Type 0
 RunsCommand files None r status input file s = RunsOver r status input file s
 RunsCommand {F = F} files (Some f) r status input file s =
     ((opened : F) × files.opens file.old (path_of f) opened
@@ -70,12 +72,14 @@ version_line = codes "h3 1.3.0" ++ 10 ∷ []
 -- Follows: what is done and written for what words parse as
 --
 -- a command is run; help and the version go to standard output, where a write may fail; the text of an invalid command
--- line goes to standard error, with status 2; out of memory is an error line; where no command is run, nothing is opened
--- or read
+-- line goes to standard error, with status 2; out of memory is an error line; where no command is run, nothing is
+-- opened or read
 abbrev pub Follows : {R F : Type 0} → Files F → Result Words ArgsError → ℕ → Change R → Change F → Streams → Type 0
-Follows files (Ok words) status input file s = RunsCommand files words.file (request_of words.tables words.command) status input file s
+Follows files (Ok words) status input file s =
+    RunsCommand files words.file (request_of words.tables words.command) status input file s
 Follows files (Err (Help text)) status input file s =
-    ((ending : Result (Unit {0}) RunError) × Writes (written (string_bytes text)) ending s.out × Reports ending status s.err)
+    ((ending : Result (Unit {0}) RunError) × Writes (written (string_bytes text)) ending s.out
+    × Reports ending status s.err)
     × IsUntouched input × IsUntouched file
 Follows files (Err Version) status input file s =
     ((ending : Result (Unit {0}) RunError) × Writes (written version_line) ending s.out × Reports ending status s.err)

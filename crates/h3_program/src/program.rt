@@ -7,7 +7,7 @@ ghost use Rattle.h3_command.specs.Answer.{request_of};
 ghost use Rattle.h3_words.specs.Parse.{ParsesAs};
 ghost use Rattle.h3_words.specs.declared.words.Words.{Words};
 ghost use Rattle.h3_words.specs.declared.words.ArgsError.{ArgsError};
-ghost use Rattle.h3_program.specs.Program.{Follows, RunsCommand, open_line};
+ghost use Rattle.h3_program.specs.Program.{Follows, RunsCommand, WritesLine, open_line};
 
 use crate::file::OpenFile;
 use h3_command::run::run_over;
@@ -31,6 +31,15 @@ fn open_line(file: &CommandFile) -> &'static str
         CommandFile::Region(_) => "region: open\n",
         CommandFile::Zones(_) => "zones: open\n",
     }
+}
+
+/// Says that a file cannot be opened, and returns the exit status of that.
+fn report_unopened<E: Sink>(file: &CommandFile, err: &mut E) -> u8
+    ensures status { result ≡ 3 }
+    ensures line { WritesLine (open_line file.now) (sink_use E.taken E.has_failed err.old err.new) }
+{
+    let _ = write_all(err, open_line(file).as_bytes());
+    CANNOT_OPEN
 }
 
 /// Runs a command, and returns the exit status. Its file is opened first, if it has one; where that
@@ -61,10 +70,7 @@ fn run_command<R: Source, F: OpenFile, W: Sink, E: Sink>(
         None => run_over(alloc, &words.command, &words.tables, input, file, out, err),
         Some(named) => match file.open(named.path()) {
             Ok(()) => run_over(alloc, &words.command, &words.tables, input, file, out, err),
-            Err(_) => {
-                let _ = write_all(err, open_line(named).as_bytes());
-                CANNOT_OPEN
-            }
+            Err(_) => report_unopened(named, err),
         },
     }
 }
