@@ -15,7 +15,8 @@ joined-none None = refl
 joined-none (Some c) = refl
 
 -- where both are there
-pub some-joined : (o : Option Address) (r : Option (List Address)) → joined o r ≢ None → (c : Address) × (o ≡ Some c) × (r ≢ None)
+pub some-joined : (o : Option Address) (r : Option (List Address)) → joined o r ≢ None
+    → (c : Address) × (o ≡ Some c) × (r ≢ None)
 some-joined (Some c) (Some ds) some = (c, refl, λ e. search (rules, e))
 some-joined None r some = absurd (some refl)
 some-joined (Some c) None some = absurd (some refl)
@@ -26,7 +27,8 @@ both_there None r c is some = λ e. search (rules, is)
 both_there (Some d) None c is some = absurd (some refl)
 
 -- one more
-pub cells_in-snoc : (hs : List ℕ) (i : ℕ) (cs : List Address) (c : Address) → i < length hs → cells_in (take i hs) ≡ Some cs → cell_in (slice_index_or hs i 0) ≡ Some c
+pub cells_in-snoc : (hs : List ℕ) (i : ℕ) (cs : List Address) (c : Address) → i < length hs
+    → cells_in (take i hs) ≡ Some cs → cell_in (slice_index_or hs i 0) ≡ Some c
     → cells_in (take (suc i) hs) ≡ Some (cs ++ c ∷ [])
 unfolding cells_in
 cells_in-snoc [] i cs c room before here = absurd (omega (arith, room))
@@ -34,7 +36,9 @@ cells_in-snoc (h ∷ hs) zero cs c room before here = let none : [] ≡ cs = ap 
 cells_in-snoc (h ∷ hs) (suc i) cs c room before here =
     let (d, ds, o, r, e) = joined-some (cell_in h) (cells_in (take i hs)) cs before in
     let rest = cells_in-snoc hs i ds c (omega (arith, room)) r here in
-    let whole : joined (cell_in h) (cells_in (take (suc i) hs)) ≡ Some (cs ++ c ∷ []) = ap (λ z. joined z (cells_in (take (suc i) hs))) o ∙ ap (λ l. joined (Some d) l) rest ∙ ap (λ l. Some (l ++ c ∷ [])) e in
+    let whole : joined (cell_in h) (cells_in (take (suc i) hs)) ≡ Some (cs ++ c ∷ []) =
+    ap (λ z. joined z (cells_in (take (suc i) hs))) o ∙ ap (λ l. joined (Some d) l) rest
+    ∙ ap (λ l. Some (l ++ c ∷ [])) e in
     whole
 
 -- no cell
@@ -53,7 +57,8 @@ cells_in-length (h ∷ hs) cs read =
     ap length (sym e) ∙ ap suc (cells_in-length hs ds r)
 
 -- one more, where the others are there
-pub some-snoc : (hs : List ℕ) (i : ℕ) (c : Address) → i < length hs → cells_in (take i hs) ≢ None → cell_in (slice_index_or hs i 0) ≡ Some c → cells_in (take (suc i) hs) ≢ None
+pub some-snoc : (hs : List ℕ) (i : ℕ) (c : Address) → i < length hs → cells_in (take i hs) ≢ None
+    → cell_in (slice_index_or hs i 0) ≡ Some c → cells_in (take (suc i) hs) ≢ None
 unfolding cells_in
 some-snoc [] i c room before here = absurd (omega (arith, room))
 some-snoc (h ∷ hs) zero c room before here = rw here (λ e. search (rules, e))

@@ -35,7 +35,8 @@ children_below-next p d = let next : d + 1 ≡ suc d = omega arith in rw next re
 
 pub length-children_below : (p : Address) (d : ℕ) → length (children_below p d) ≡ d
 length-children_below p zero = refl
-length-children_below p (suc d) = omega (arith, length-append (children_below p d) (child p d ∷ []), length-children_below p d)
+length-children_below p (suc d) =
+    omega (arith, length-append (children_below p d) (child p d ∷ []), length-children_below p d)
 
 pub seven_children : (p : Address) → is_pentagon p ≡ false → children_below p 7 ≡ children p
 seven_children p hexagon = sym (children_are p ∙ ap (λ b. map (child p) (steps b)) hexagon)
@@ -49,22 +50,29 @@ spread_more : (d q : ℕ) → d * 8 * q ≡ d * (q * 8)
 spread_more d q = grind arith
 
 -- more in front of some digits
-more_in_front : (n d : ℕ) (ds : List ℕ) → number_from_digits_after 8 (n + d) ds ≡ number_from_digits_after 8 n ds + d * 8 ^ length ds
+more_in_front : (n d : ℕ) (ds : List ℕ)
+    → number_from_digits_after 8 (n + d) ds ≡ number_from_digits_after 8 n ds + d * 8 ^ length ds
 more_in_front n d [] = omega arith
 more_in_front n d (x ∷ ds) =
     ap (λ m. number_from_digits_after 8 m ds) (spread n d x)
     ∙ more_in_front (n * 8 + x) (d * 8) ds
-    ∙ ap (λ m. number_from_digits_after 8 (n * 8 + x) ds + m) (spread_more d (8 ^ length ds) ∙ ap (λ q. d * q) (sym (pow-suc 8 (length ds))))
+    ∙ ap (λ m. number_from_digits_after 8 (n * 8 + x) ds + m)
+    (spread_more d (8 ^ length ds) ∙ ap (λ q. d * q) (sym (pow-suc 8 (length ds))))
 
 -- the digits of a child, from its parent's
-value_of : (p : Address) (d : ℕ) → number_from_digits 8 (padded (p.digits ++ d ∷ [])) ≡ number_from_digits_after 8 (number_from_digits 8 p.digits * 8 + d) (replicate (14 - length p.digits) 7)
+value_of : (p : Address) (d : ℕ)
+    → number_from_digits 8 (padded (p.digits ++ d ∷ []))
+    ≡ number_from_digits_after 8 (number_from_digits 8 p.digits * 8 + d) (replicate (14 - length p.digits) 7)
 value_of p d =
-    let size : 15 - length (p.digits ++ d ∷ []) ≡ 14 - length p.digits = omega (arith, length-append p.digits (d ∷ [])) in
+    let size : 15 - length (p.digits ++ d ∷ []) ≡ 14 - length p.digits =
+    omega (arith, length-append p.digits (d ∷ [])) in
     ap (λ k. number_from_digits 8 ((p.digits ++ d ∷ []) ++ replicate k 7)) size
     ∙ number_after_append 8 0 (p.digits ++ d ∷ []) (replicate (14 - length p.digits) 7)
     ∙ ap (λ n. number_from_digits_after 8 n (replicate (14 - length p.digits) 7)) (number_push 8 p.digits d)
 
-value_from : (p : Address) (d : ℕ) → number_from_digits 8 (padded (p.digits ++ d ∷ [])) ≡ number_from_digits 8 (padded (p.digits ++ 0 ∷ [])) + d * 8 ^ (14 - length p.digits)
+value_from : (p : Address) (d : ℕ)
+    → number_from_digits 8 (padded (p.digits ++ d ∷ []))
+    ≡ number_from_digits 8 (padded (p.digits ++ 0 ∷ [])) + d * 8 ^ (14 - length p.digits)
 value_from p d =
     let v = number_from_digits 8 p.digits in
     let rest : List ℕ = replicate (14 - length p.digits) 7 in
@@ -73,9 +81,11 @@ value_from p d =
     ∙ ap (λ n. number_from_digits_after 8 n rest) none
     ∙ more_in_front (v * 8 + 0) d rest
     ∙ ap (λ n. n + d * 8 ^ length rest) (sym (value_of p 0))
-    ∙ ap (λ k. number_from_digits 8 (padded (p.digits ++ 0 ∷ [])) + d * 8 ^ k) (length-replicate {A = ℕ} (14 - length p.digits) 7)
+    ∙ ap (λ k. number_from_digits 8 (padded (p.digits ++ 0 ∷ [])) + d * 8 ^ k)
+    (length-replicate {A = ℕ} (14 - length p.digits) 7)
 
-pub number_child : (p : Address) (d : ℕ) → number_of (child p d) ≡ number_of (child p 0) + d * 8 ^ (14 - length p.digits)
+pub number_child : (p : Address) (d : ℕ)
+    → number_of (child p d) ≡ number_of (child p 0) + d * 8 ^ (14 - length p.digits)
 unfolding number_of
 number_child p d =
     let one : length (p.digits ++ d ∷ []) ≡ length p.digits + 1 = length-append p.digits (d ∷ []) in
@@ -83,7 +93,8 @@ number_child p d =
     omega (arith, one, first, value_from p d)
 
 -- seven more in the last digit is one more in resolution
-pub number_parent : (p : Address) → length p.digits < 15 → number_of p + 2 ^ 52 ≡ number_of (child p 0) + 7 * 8 ^ (14 - length p.digits)
+pub number_parent : (p : Address) → length p.digits < 15
+    → number_of p + 2 ^ 52 ≡ number_of (child p 0) + 7 * 8 ^ (14 - length p.digits)
 unfolding number_of
 number_parent p coarse =
     let k = 14 - length p.digits in
@@ -95,7 +106,8 @@ number_parent p coarse =
     let first : length (p.digits ++ 0 ∷ []) ≡ length p.digits + 1 = length-append p.digits (0 ∷ []) in
     omega (arith, first, ap (number_from_digits 8) same, value_from p 7)
 
-pub number_step : (p : Address) (d u number : ℕ) → u ≡ 8 ^ (14 - length p.digits) → number ≡ number_of (child p 0) + d * u → number ≡ number_of (child p d)
+pub number_step : (p : Address) (d u number : ℕ) → u ≡ 8 ^ (14 - length p.digits)
+    → number ≡ number_of (child p 0) + d * u → number ≡ number_of (child p d)
 number_step p d u number unit is = is ∙ ap (λ v. number_of (child p 0) + d * v) unit ∙ sym (number_child p d)
 
 -- ---- the unit
@@ -140,39 +152,51 @@ and_three false b c = refl
 
 pub pentagon-child : (c : Address) (d : ℕ) → is_pentagon (child c d) ≡ (is_pentagon c && d == 0)
 pentagon-child c d =
-    ap (λ b. is_pentagon_base c.base && b) (leading-push c.digits d) ∙ and_three (is_pentagon_base c.base) (leading c.digits == 0) (d == 0)
+    ap (λ b. is_pentagon_base c.base && b) (leading-push c.digits d)
+    ∙ and_three (is_pentagon_base c.base) (leading c.digits == 0) (d == 0)
 
 pub hexagon-child : (c : Address) (d : ℕ) → is_pentagon c ≡ false → is_pentagon (child c d) ≡ false
 hexagon-child c d hexagon = pentagon-child c d ∙ ap (λ b. b && d == 0) hexagon
 
-along-digits : (base : ℕ) (ds es : List ℕ) → ds ≡ es → ◌≡◌ {A = Address} (record { base = base; digits = ds }) (record { base = base; digits = es })
+along-digits : (base : ℕ) (ds es : List ℕ) → ds ≡ es
+    → ◌≡◌ {A = Address} (record { base = base; digits = ds }) (record { base = base; digits = es })
 along-digits base ds es same = ap {B = Address} (λ l. record { base = base; digits = l }) same
 
 along-child : (c : Address) (d : ℕ) (es : List ℕ) → along c (d ∷ es) ≡ along (child c d) es
-along-child c d es = along-digits c.base (c.digits ++ d ∷ es) ((c.digits ++ d ∷ []) ++ es) (sym (append_assoc c.digits (d ∷ []) es))
+along-child c d es =
+    along-digits c.base (c.digits ++ d ∷ es) ((c.digits ++ d ∷ []) ++ es) (sym (append_assoc c.digits (d ∷ []) es))
 
-along_map : (c : Address) (d : ℕ) (xs : List (List ℕ)) → map (along c) (map (λ ds. d ∷ ds) xs) ≡ map (along (child c d)) xs
+along_map : (c : Address) (d : ℕ) (xs : List (List ℕ))
+    → map (along c) (map (λ ds. d ∷ ds) xs) ≡ map (along (child c d)) xs
 along_map c d [] = refl
 along_map c d (x ∷ xs) =
-    ap (λ y. y ∷ map (along c) (map (λ ds. d ∷ ds) xs)) (along-child c d x) ∙ ap (λ ys. along (child c d) x ∷ ys) (along_map c d xs)
+    ap (λ y. y ∷ map (along c) (map (λ ds. d ∷ ds) xs)) (along-child c d x)
+    ∙ ap (λ ys. along (child c d) x ∷ ys) (along_map c d xs)
 
-block : (c : Address) (s n d : ℕ) → s - length (c.digits ++ d ∷ []) ≡ n → map (along c) (map (λ ds. d ∷ ds) (paths (is_pentagon c && d == 0) n)) ≡ descendants (child c d) s
+block : (c : Address) (s n d : ℕ) → s - length (c.digits ++ d ∷ []) ≡ n
+    → map (along c) (map (λ ds. d ∷ ds) (paths (is_pentagon c && d == 0) n)) ≡ descendants (child c d) s
 unfolding descendants
 block c s n d e = along_map c d (paths (is_pentagon c && d == 0) n) ∙ rw (e, pentagon-child c d) refl
 
-blocks_of : (c : Address) (s n : ℕ) → ((d : ℕ) → s - length (c.digits ++ d ∷ []) ≡ n) → (ds : List ℕ) → map (along c) (flat_map (λ d. map (λ es. d ∷ es) (paths (is_pentagon c && d == 0) n)) ds) ≡ flat_map (λ d. descendants (child c d) s) ds
+blocks_of : (c : Address) (s n : ℕ) → ((d : ℕ) → s - length (c.digits ++ d ∷ []) ≡ n) → (ds : List ℕ)
+    → map (along c) (flat_map (λ d. map (λ es. d ∷ es) (paths (is_pentagon c && d == 0) n)) ds)
+    ≡ flat_map (λ d. descendants (child c d) s) ds
 blocks_of c s n e [] = refl
 blocks_of c s n e (d ∷ ds) =
-    map-append (along c) (map (λ es. d ∷ es) (paths (is_pentagon c && d == 0) n)) (flat_map (λ k. map (λ es. k ∷ es) (paths (is_pentagon c && k == 0) n)) ds)
-    ∙ ap (λ ys. ys ++ map (along c) (flat_map (λ k. map (λ es. k ∷ es) (paths (is_pentagon c && k == 0) n)) ds)) (block c s n d (e d))
+    map-append (along c) (map (λ es. d ∷ es) (paths (is_pentagon c && d == 0) n))
+    (flat_map (λ k. map (λ es. k ∷ es) (paths (is_pentagon c && k == 0) n)) ds)
+    ∙ ap (λ ys. ys ++ map (along c) (flat_map (λ k. map (λ es. k ∷ es) (paths (is_pentagon c && k == 0) n)) ds))
+    (block c s n d (e d))
     ∙ ap (λ ys. descendants (child c d) s ++ ys) (blocks_of c s n e ds)
 
-blocks_at : (c : Address) (s n : ℕ) → s - length c.digits ≡ suc n → descendants c s ≡ flat_map (λ d. descendants (child c d) s) (steps (is_pentagon c))
+blocks_at : (c : Address) (s n : ℕ) → s - length c.digits ≡ suc n
+    → descendants c s ≡ flat_map (λ d. descendants (child c d) s) (steps (is_pentagon c))
 unfolding descendants paths
 blocks_at c s n more =
     rw more (blocks_of c s n (λ d. omega (arith, length-append c.digits (d ∷ []), more)) (steps (is_pentagon c)))
 
-blocks : (c : Address) (s : ℕ) → length c.digits < s → descendants c s ≡ flat_map (λ d. descendants (child c d) s) (steps (is_pentagon c))
+blocks : (c : Address) (s : ℕ) → length c.digits < s
+    → descendants c s ≡ flat_map (λ d. descendants (child c d) s) (steps (is_pentagon c))
 blocks c s finer = blocks_at c s (s - length c.digits - 1) (omega (arith, finer))
 
 pub descendants-own : (c : Address) (s : ℕ) → s ≡ length c.digits → descendants c s ≡ c ∷ []
@@ -181,21 +205,28 @@ descendants-own c s e =
     let none : s - length c.digits ≡ 0 = omega arith in
     rw none (ap (λ x. x ∷ []) (along-digits c.base (c.digits ++ []) c.digits (append-nil c.digits)))
 
-flat_twice : {A B C : Type 0} (f : A → List B) (g : B → List C) (h : A → List C) → ((x : A) → h x ≡ flat_map g (f x)) → (xs : List A) → flat_map h xs ≡ flat_map g (flat_map f xs)
+flat_twice : {A B C : Type 0} (f : A → List B) (g : B → List C) (h : A → List C) → ((x : A) → h x ≡ flat_map g (f x))
+    → (xs : List A) → flat_map h xs ≡ flat_map g (flat_map f xs)
 flat_twice f g h e [] = refl
-flat_twice f g h e (x ∷ xs) = ap (λ l. l ++ flat_map h xs) (e x) ∙ ap (λ l. flat_map g (f x) ++ l) (flat_twice f g h e xs) ∙ sym (flat_map-append g (f x) (flat_map f xs))
+flat_twice f g h e (x ∷ xs) =
+    ap (λ l. l ++ flat_map h xs) (e x) ∙ ap (λ l. flat_map g (f x) ++ l) (flat_twice f g h e xs)
+    ∙ sym (flat_map-append g (f x) (flat_map f xs))
 
-by_level : (n : ℕ) (c : Address) (s r : ℕ) → s ≡ length c.digits + n → s < r → descendants c r ≡ flat_map (λ k. descendants k r) (descendants c s)
+by_level : (n : ℕ) (c : Address) (s r : ℕ) → s ≡ length c.digits + n → s < r
+    → descendants c r ≡ flat_map (λ k. descendants k r) (descendants c s)
 by_level zero c s r e finer =
     let own : s ≡ length c.digits = omega arith in
     rw (descendants-own c s own) (sym (append-nil (descendants c r)))
 by_level (suc n) c s r e finer =
     blocks c r (omega arith)
-    ∙ flat_twice (λ d. descendants (child c d) s) (λ k. descendants k r) (λ d. descendants (child c d) r) (λ d. by_level n (child c d) s r (omega (arith, e, length-append c.digits (d ∷ []))) finer) (steps (is_pentagon c))
+    ∙ flat_twice (λ d. descendants (child c d) s) (λ k. descendants k r) (λ d. descendants (child c d) r)
+    (λ d. by_level n (child c d) s r (omega (arith, e, length-append c.digits (d ∷ []))) finer)
+    (steps (is_pentagon c))
     ∙ ap (flat_map (λ k. descendants k r)) (sym (blocks c s (omega arith)))
 
 -- the descendants are those of the descendants at a resolution between
-pub descendants-between : (c : Address) (s r : ℕ) → length c.digits ≤ s → s < r → descendants c r ≡ flat_map (λ k. descendants k r) (descendants c s)
+pub descendants-between : (c : Address) (s r : ℕ) → length c.digits ≤ s → s < r
+    → descendants c r ≡ flat_map (λ k. descendants k r) (descendants c s)
 descendants-between c s r not_coarser finer = by_level (s - length c.digits) c s r (omega (arith, not_coarser)) finer
 
 -- the children of the children of the digits below a number, of a cell that is no pentagon
@@ -203,24 +234,33 @@ abbrev pub grandchildren_below : Address → ℕ → List Address
 grandchildren_below c zero = []
 grandchildren_below c (suc d) = grandchildren_below c d ++ children (child c d)
 
-pub grandchildren_below-next : (c : Address) (d : ℕ) → grandchildren_below c (d + 1) ≡ grandchildren_below c d ++ children (child c d)
+pub grandchildren_below-next : (c : Address) (d : ℕ)
+    → grandchildren_below c (d + 1) ≡ grandchildren_below c d ++ children (child c d)
 grandchildren_below-next c d = let next : d + 1 ≡ suc d = omega arith in rw next refl
 
 pub length-seven : (p : Address) → is_pentagon p ≡ false → length (children p) ≡ 7
 length-seven p hexagon = ap length (sym (seven_children p hexagon)) ∙ length-children_below p 7
 
-pub length-grandchildren_below : (c : Address) (d : ℕ) → is_pentagon c ≡ false → length (grandchildren_below c d) ≡ 7 * d
+pub length-grandchildren_below : (c : Address) (d : ℕ) → is_pentagon c ≡ false
+    → length (grandchildren_below c d) ≡ 7 * d
 length-grandchildren_below c zero hexagon = refl
 length-grandchildren_below c (suc d) hexagon =
-    omega (arith, length-append (grandchildren_below c d) (children (child c d)), length-seven (child c d) (hexagon-child c d hexagon), length-grandchildren_below c d hexagon)
+    omega (
+      arith,
+      length-append (grandchildren_below c d) (children (child c d)),
+      length-seven (child c d) (hexagon-child c d hexagon),
+      length-grandchildren_below c d hexagon,
+    )
 
-pub all_grandchildren : (c : Address) → is_pentagon c ≡ false → grandchildren_below c 7 ≡ descendants c (length c.digits + 2)
+pub all_grandchildren : (c : Address) → is_pentagon c ≡ false
+    → grandchildren_below c 7 ≡ descendants c (length c.digits + 2)
 all_grandchildren c hexagon =
     let r = length c.digits + 2 in
     let own : (d : ℕ) → descendants (child c d) r ≡ children (child c d) = λ d. (let same : r ≡ length (c.digits ++ d ∷ []) + 1 = omega (arith, length-append c.digits (d ∷ [])) in ap (descendants (child c d)) same) in
     sym (blocks c r (omega arith) ∙ ap (λ b. flat_map (λ d. descendants (child c d) r) (steps b)) hexagon ∙ seven own)
   where
-    seven : ((d : ℕ) → descendants (child c d) (length c.digits + 2) ≡ children (child c d)) → flat_map (λ d. descendants (child c d) (length c.digits + 2)) (steps false) ≡ grandchildren_below c 7
+    seven : ((d : ℕ) → descendants (child c d) (length c.digits + 2) ≡ children (child c d))
+        → flat_map (λ d. descendants (child c d) (length c.digits + 2)) (steps false) ≡ grandchildren_below c 7
     seven own = rw (own 0, own 1, own 2, own 3, own 4, own 5, own 6) (search (rules, append_assoc, append-nil))
 
 pub length-forty_nine : (c : Address) → is_pentagon c ≡ false → length (descendants c (length c.digits + 2)) ≡ 49

@@ -6,7 +6,8 @@ use Rattle.h3_index.specs.Cell.{Address, number_of}
 use Rattle.h3_c.specs.Lists.{indexes, laid_over}
 
 -- one item more, where there is room
-pub laid_over-snoc : {A : Type 0} (xs old : List A) (x : A) → length xs < length old → laid_over (xs ++ x ∷ []) old ≡ slice_set (laid_over xs old) (length xs) x
+pub laid_over-snoc : {A : Type 0} (xs old : List A) (x : A) → length xs < length old
+    → laid_over (xs ++ x ∷ []) old ≡ slice_set (laid_over xs old) (length xs) x
 unfolding laid_over
 laid_over-snoc [] (y ∷ old) x room = refl
 laid_over-snoc [] [] x room = absurd (omega (arith, room))
@@ -14,7 +15,8 @@ laid_over-snoc (z ∷ xs) (y ∷ old) x room = ap (λ l. z ∷ l) (laid_over-sno
 laid_over-snoc (z ∷ xs) [] x room = absurd (omega (arith, room))
 
 -- more items, where there is no room
-pub laid_over-full : {A : Type 0} (xs more old : List A) → length old ≤ length xs → laid_over (xs ++ more) old ≡ laid_over xs old
+pub laid_over-full : {A : Type 0} (xs more old : List A) → length old ≤ length xs
+    → laid_over (xs ++ more) old ≡ laid_over xs old
 unfolding laid_over
 laid_over-full [] [] [] full = refl
 laid_over-full [] (x ∷ more) [] full = refl
@@ -37,7 +39,8 @@ indexes-snoc cells c old room =
     ∙ ap (λ n. slice_set (laid_over (indexes cells) old) n (number_of c)) (length-map cells (λ d. number_of d))
 
 -- more cells, where there is no room
-pub indexes-full : (cells more : List Address) (old : List ℕ) → length old ≤ length cells → laid_over (indexes (cells ++ more)) old ≡ laid_over (indexes cells) old
+pub indexes-full : (cells more : List Address) (old : List ℕ) → length old ≤ length cells
+    → laid_over (indexes (cells ++ more)) old ≡ laid_over (indexes cells) old
 indexes-full cells more old full =
     ap (λ l. laid_over l old) (map-append (λ d. number_of d) cells more)
     ∙ laid_over-full (indexes cells) (indexes more) old (rw length-map full)

@@ -38,7 +38,8 @@ beside_at [] numbers x place d lt here before = absurd (omega (arith, lt))
 beside_at (z ∷ zones) [] x place d lt here before = refl
 beside_at (z ∷ zones) (n ∷ numbers) x zero d lt here before = rw here refl
 beside_at (z ∷ zones) (n ∷ numbers) x (suc place) d lt here before =
-    rw (before 0 (omega arith)) (beside_at zones numbers x place d (omega (arith, lt)) here (λ i less. before (suc i) (omega (arith, less))))
+    rw (before 0 (omega arith))
+    (beside_at zones numbers x place d (omega (arith, lt)) here (λ i less. before (suc i) (omega (arith, less))))
 
 pub beside_none : (zones : List Address) (numbers : List ℕ) (x : Address)
     → ((z : Address) → Contains zones z → is_ancestor z x ≡ false) → beside zones numbers x ≡ 2 ^ 64 - 1
@@ -56,20 +57,25 @@ module _ (found : AncestorsAreFound) (zones : List Address) (numbers : List ℕ)
       ]
 
   -- the zone at a place is the only one that is x or an ancestor of it
-  pub beside_zone : (in_order : IsZones zones) (z : Address) (place : ℕ) → slice_get zones place ≡ Some z → IsAncestor z x
+  pub beside_zone : (in_order : IsZones zones) (z : Address) (place : ℕ) → slice_get zones place ≡ Some z
+      → IsAncestor z x
       → ((y : Address) → Contains zones y → IsAncestor y x → Some z ≡ Some y)
       → beside zones numbers x ≡ get_or numbers place (2 ^ 64 - 1)
   beside_zone in_order z place there above one =
       let lt : place < length zones = slice_get_within zones place z there in
       let is : get_or zones place z ≡ z = get_or_from_slice_get zones place z z there in
       beside_at zones numbers x place z lt (rw is ((found z x).1 above)) (λ i less. not_above (get_or zones i z) (λ over.
-      let same : Some z ≡ Some (get_or zones i z) = one (get_or zones i z) (Contains-get_or zones i z (omega (arith, less, lt))) over in
+      let same : Some z ≡ Some (get_or zones i z) =
+      one (get_or zones i z) (Contains-get_or zones i z (omega (arith, less, lt))) over in
       let eq : z ≡ get_or zones i z = ap (λ o. unwrap_or o z) same in
-      let ordered : post_order_key (get_or zones i z) < post_order_key (get_or zones place z) = in_order.in_order i place z less lt in
-      let keys : post_order_key (get_or zones place z) ≡ post_order_key (get_or zones i z) = ap post_order_key (is ∙ eq) in
+      let ordered : post_order_key (get_or zones i z) < post_order_key (get_or zones place z) =
+      in_order.in_order i place z less lt in
+      let keys : post_order_key (get_or zones place z) ≡ post_order_key (get_or zones i z) =
+      ap post_order_key (is ∙ eq) in
       absurd (omega (arith, ordered, keys))))
 
-  pub beside_no_zone : ((y : Address) → Contains zones y → IsAncestor y x → None ≡ Some y) → beside zones numbers x ≡ 2 ^ 64 - 1
+  pub beside_no_zone : ((y : Address) → Contains zones y → IsAncestor y x → None ≡ Some y)
+      → beside zones numbers x ≡ 2 ^ 64 - 1
   beside_no_zone one =
       beside_none zones numbers x (λ y m. not_above y (λ over. (let e : None ≡ Some y = one y m over in cc)))
 
@@ -77,7 +83,8 @@ module _ (found : AncestorsAreFound) (zones : List Address) (numbers : List ℕ)
 
 module _ (ancestors : AncestorsAreFound) (x : Address) where
   cons_lies : (p : Address × ℕ) (areas : List (Address × ℕ)) (n : ℕ) → LiesIn areas x n → LiesIn (p ∷ areas) x n
-  cons_lies p areas n h = record { by = h.by; member = (suc h.member.0, omega (arith, h.member.1), h.member.2); above = h.above }
+  cons_lies p areas n h =
+      record { by = h.by; member = (suc h.member.0, omega (arith, h.member.1), h.member.2); above = h.above }
 
   in_tail : (p : Address × ℕ) (areas : List (Address × ℕ)) (n : ℕ) → is_ancestor p.0 x ≡ false → (by : Address)
       → Contains (p ∷ areas) (by, n) → IsAncestor by x → LiesIn areas x n
@@ -114,7 +121,8 @@ module _ (ancestors : AncestorsAreFound) (one : OneAreaAtMost) (areas pairs : Li
         | inr w ↦ absurd (w.1 n own)
       ]
 
-  pub no_area_found : ((n : ℕ) → ¬ LiesIn pairs x n) → beside (map (λ p. p.0) areas) (map (λ p. p.1) areas) x ≡ 2 ^ 64 - 1
+  pub no_area_found : ((n : ℕ) → ¬ LiesIn pairs x n)
+      → beside (map (λ p. p.0) areas) (map (λ p. p.1) areas) x ≡ 2 ^ 64 - 1
   no_area_found none =
       elim (beside_lies ancestors x areas) [
         | inl lies ↦ absurd (none _ ((alike x _).0 lies))
@@ -124,14 +132,16 @@ module _ (ancestors : AncestorsAreFound) (one : OneAreaAtMost) (areas pairs : Li
 -- ---- pairs, one more
 
 pub zip-snoc : (cells : List Address) (numbers : List ℕ) (i : ℕ) (d : Address) → i < length cells → i < length numbers
-    → zip (take (suc i) cells) (take (suc i) numbers) ≡ zip (take i cells) (take i numbers) ++ (get_or cells i d, get_or numbers i 0) ∷ []
+    → zip (take (suc i) cells) (take (suc i) numbers)
+    ≡ zip (take i cells) (take i numbers) ++ (get_or cells i d, get_or numbers i 0) ∷ []
 zip-snoc [] numbers i d lt ln = absurd (omega (arith, lt))
 zip-snoc (c ∷ cells) [] i d lt ln = absurd (omega (arith, ln))
 zip-snoc (c ∷ cells) (n ∷ numbers) zero d lt ln = refl
 zip-snoc (c ∷ cells) (n ∷ numbers) (suc i) d lt ln =
     ap (λ l. (c, n) ∷ l) (zip-snoc cells numbers i d (omega (arith, lt)) (omega (arith, ln)))
 
-pub pairs_next : (cells : List Address) (numbers : List ℕ) (pairs : List (Address × ℕ)) (i : ℕ) (d : Address) → i < length cells
+pub pairs_next : (cells : List Address) (numbers : List ℕ) (pairs : List (Address × ℕ)) (i : ℕ) (d : Address)
+    → i < length cells
     → length cells ≤ length numbers → pairs ≡ zip (take i cells) (take i numbers) → d ≡ get_or cells i d
     → pairs ++ (d, get_or numbers i 0) ∷ [] ≡ zip (take (i + 1) cells) (take (i + 1) numbers)
 pairs_next cells numbers pairs i d lt long are is_cell =
@@ -193,20 +203,24 @@ take_laid_over [] old room = refl
 take_laid_over (x ∷ xs) [] room = absurd (omega (arith, room))
 take_laid_over (x ∷ xs) (y ∷ old) room = ap (λ l. x ∷ l) (take_laid_over xs old (omega (arith, room)))
 
-pub areas_over : NumbersAreRead → (hs numbers old new old_numbers new_numbers : List ℕ) (count : ℕ) (given : List Address)
-    → cells_in hs ≡ Some given → length (zip given numbers) ≤ length old → length (zip given numbers) ≤ length old_numbers
+pub areas_over : NumbersAreRead
+    → (hs numbers old new old_numbers new_numbers : List ℕ) (count : ℕ) (given : List Address)
+    → cells_in hs ≡ Some given → length (zip given numbers) ≤ length old
+    → length (zip given numbers) ≤ length old_numbers
     → AreAreasPut (zip given numbers) old new old_numbers new_numbers count
     → AreAreasOver hs numbers old new old_numbers new_numbers count
 areas_over reads hs numbers old new old_numbers new_numbers count given read room room_of_numbers put =
     let areas = put.areas in
     let zones = map (λ p. p.0) areas in
-    let indexes_are : length (indexes zones) ≡ count = length-map zones (λ c. number_of c) ∙ length-map areas (λ p. p.0) ∙ sym put.size in
+    let indexes_are : length (indexes zones) ≡ count =
+    length-map zones (λ c. number_of c) ∙ length-map areas (λ p. p.0) ∙ sym put.size in
     let numbers_are : length (map (λ p. p.1) areas) ≡ count = length-map areas (λ p. p.1) ∙ sym put.size in
     let front : take count new ≡ indexes zones =
     ap (take count) put.written ∙ ap (λ k. take k (laid_over (indexes zones) old)) (sym indexes_are)
     ∙ take_laid_over (indexes zones) old (omega (arith, indexes_are, put.fewer, room)) in
     let front_of_numbers : take count new_numbers ≡ map (λ p. p.1) areas =
-    ap (take count) put.numbers_written ∙ ap (λ k. take k (laid_over (map (λ p. p.1) areas) old_numbers)) (sym numbers_are)
+    ap (take count) put.numbers_written
+    ∙ ap (λ k. take k (laid_over (map (λ p. p.1) areas) old_numbers)) (sym numbers_are)
     ∙ take_laid_over (map (λ p. p.1) areas) old_numbers (omega (arith, numbers_are, put.fewer, room_of_numbers)) in
     record {
       given = given;

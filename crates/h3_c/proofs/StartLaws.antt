@@ -31,11 +31,14 @@ unfolding total
 total-snoc [] n = omega arith
 total-snoc (m ∷ ns) n = omega (arith, total-snoc ns n)
 
-pub sizes-next : (f : ℕ → Result ℕ H3Error) (hs : List ℕ) (i : ℕ) (r : Result ℕ H3Error) → i < length hs → r ≡ f (slice_index_or hs i 0)
+pub sizes-next : (f : ℕ → Result ℕ H3Error) (hs : List ℕ) (i : ℕ) (r : Result ℕ H3Error) → i < length hs
+    → r ≡ f (slice_index_or hs i 0)
     → sizes_of (map f (take (i + 1) hs)) ≡ sizes_of (map f (take i hs)) ++ result_unwrap_or r 0 ∷ []
-sizes-next f hs i r room is = ap sizes_of (up_to-next f hs i r room is) ∙ map-append (λ q. result_unwrap_or q 0) (map f (take i hs)) (r ∷ [])
+sizes-next f hs i r room is =
+    ap sizes_of (up_to-next f hs i r room is) ∙ map-append (λ q. result_unwrap_or q 0) (map f (take i hs)) (r ∷ [])
 
-pub length-sizes : (f : ℕ → Result ℕ H3Error) (hs : List ℕ) (i : ℕ) → i ≤ length hs → length (sizes_of (map f (take i hs))) ≡ i
+pub length-sizes : (f : ℕ → Result ℕ H3Error) (hs : List ℕ) (i : ℕ) → i ≤ length hs
+    → length (sizes_of (map f (take i hs))) ≡ i
 length-sizes f hs i room = length-map (map f (take i hs)) (λ q. result_unwrap_or q 0) ∙ length-up_to f hs i room
 
 pub length-all_sizes : (f : ℕ → Result ℕ H3Error) (hs : List ℕ) → length (sizes_of (map f hs)) ≡ length hs
@@ -43,7 +46,9 @@ length-all_sizes f hs = length-map (map f hs) (λ q. result_unwrap_or q 0) ∙ l
 
 -- the sizes before an index, its own, and those after
 pub sizes-split : (f : ℕ → Result ℕ H3Error) (hs : List ℕ) (i : ℕ) → i < length hs
-    → sizes_of (map f hs) ≡ sizes_of (map f (take i hs)) ++ result_unwrap_or (f (slice_index_or hs i 0)) 0 ∷ sizes_of (map f (drop (suc i) hs))
+    → sizes_of (map f hs)
+    ≡ sizes_of (map f (take i hs)) ++ result_unwrap_or (f (slice_index_or hs i 0)) 0
+    ∷ sizes_of (map f (drop (suc i) hs))
 sizes-split f [] i room = absurd (omega (arith, room))
 sizes-split f (h ∷ hs) zero room = refl
 sizes-split f (h ∷ hs) (suc i) room = ap (λ l. result_unwrap_or (f h) 0 ∷ l) (sizes-split f hs i (omega (arith, room)))
@@ -57,7 +62,8 @@ fitting-whole (n ∷ ns) room fits =
     let here : nat_le n room ≡ true = le-leb n room (omega (arith, fits)) in
     rw here (ap suc (fitting-whole ns (room - n) (omega (arith, fits))))
 
-pub fitting-stop : (ns more : List ℕ) (n room : ℕ) → total ns ≤ room → room < total ns + n → fitting room (ns ++ n ∷ more) ≡ length ns
+pub fitting-stop : (ns more : List ℕ) (n room : ℕ) → total ns ≤ room → room < total ns + n
+    → fitting room (ns ++ n ∷ more) ≡ length ns
 unfolding total fitting
 fitting-stop [] more n room fits full =
     let here : nat_le n room ≡ false = lt-leb n room (omega (arith, full)) in
@@ -68,7 +74,8 @@ fitting-stop (m ∷ ns) more n room fits full =
 
 -- ---- the places where they begin
 
-pub starts-snoc : (place : ℕ) (ns : List ℕ) (n : ℕ) → starts_from place (ns ++ n ∷ []) ≡ starts_from place ns ++ (place + total ns + n) ∷ []
+pub starts-snoc : (place : ℕ) (ns : List ℕ) (n : ℕ)
+    → starts_from place (ns ++ n ∷ []) ≡ starts_from place ns ++ (place + total ns + n) ∷ []
 unfolding total starts_from
 starts-snoc place [] n =
     let same : place + n ≡ place + 0 + n = omega arith in
@@ -82,7 +89,8 @@ unfolding starts_from
 length-starts place [] = refl
 length-starts place (n ∷ ns) = ap suc (length-starts (place + n) ns)
 
-pub starts-before : (place : ℕ) (ns more : List ℕ) → take (suc (length ns)) (starts_from place (ns ++ more)) ≡ starts_from place ns
+pub starts-before : (place : ℕ) (ns more : List ℕ)
+    → take (suc (length ns)) (starts_from place (ns ++ more)) ≡ starts_from place ns
 unfolding starts_from
 starts-before place [] [] = refl
 starts-before place [] (n ∷ more) = refl
@@ -98,7 +106,8 @@ unfolding starts_from laid_over
 starts-first [] room = absurd (omega (arith, room))
 starts-first (x ∷ old) room = refl
 
-pub starts-next : (ns : List ℕ) (n i end : ℕ) (old out : List ℕ) → length ns ≡ i → i + 1 < length old → end ≡ total ns → out ≡ laid_over (starts_from 0 ns) old
+pub starts-next : (ns : List ℕ) (n i end : ℕ) (old out : List ℕ) → length ns ≡ i → i + 1 < length old → end ≡ total ns
+    → out ≡ laid_over (starts_from 0 ns) old
     → slice_set out (i + 1) (end + n) ≡ laid_over (starts_from 0 (ns ++ n ∷ [])) old
 starts-next ns n i end old out long room is put =
     let place : 0 + total ns + n ≡ end + n = omega (arith, is) in
@@ -110,12 +119,14 @@ starts-next ns n i end old out long room is put =
 
 -- ---- where a list has no room, and where all have
 
-pub stopped : (f : ℕ → Result ℕ H3Error) (hs : List ℕ) (i end size room : ℕ) → i < length hs → end ≡ total (sizes_of (map f (take i hs))) → end ≤ room
+pub stopped : (f : ℕ → Result ℕ H3Error) (hs : List ℕ) (i end size room : ℕ) → i < length hs
+    → end ≡ total (sizes_of (map f (take i hs))) → end ≤ room
     → size ≡ result_unwrap_or (f (slice_index_or hs i 0)) 0 → room < end + size → fitting room (sizes_of (map f hs)) ≡ i
 stopped f hs i end size room here is within own full =
     let long : length (sizes_of (map f (take i hs))) ≡ i = length-sizes f hs i (omega (arith, here)) in
     ap (fitting room) (sizes-split f hs i here)
-    ∙ fitting-stop (sizes_of (map f (take i hs))) (sizes_of (map f (drop (suc i) hs))) (result_unwrap_or (f (slice_index_or hs i 0)) 0) room (omega (arith, is, within)) (omega (arith, is, own, full))
+    ∙ fitting-stop (sizes_of (map f (take i hs))) (sizes_of (map f (drop (suc i) hs)))
+    (result_unwrap_or (f (slice_index_or hs i 0)) 0) room (omega (arith, is, within)) (omega (arith, is, own, full))
     ∙ long
 
 pub stopped-starts : (f : ℕ → Result ℕ H3Error) (hs : List ℕ) (i fits : ℕ) → i < length hs → fits ≡ i
@@ -128,10 +139,12 @@ stopped-starts f hs i fits here is =
     ∙ ap (λ l. take (suc (length ns)) (starts_from 0 l)) (sizes-split f hs i here)
     ∙ starts-before 0 ns more
 
-up_to-all : (f : ℕ → Result ℕ H3Error) (hs : List ℕ) (i : ℕ) → i ≡ length hs → sizes_of (map f (take i hs)) ≡ sizes_of (map f hs)
+up_to-all : (f : ℕ → Result ℕ H3Error) (hs : List ℕ) (i : ℕ) → i ≡ length hs
+    → sizes_of (map f (take i hs)) ≡ sizes_of (map f hs)
 up_to-all f hs i end = ap (λ n. sizes_of (map f (take n hs))) end ∙ ap sizes_of (whole f hs)
 
-pub ended : (f : ℕ → Result ℕ H3Error) (hs : List ℕ) (i end room : ℕ) → i ≡ length hs → end ≡ total (sizes_of (map f (take i hs))) → end ≤ room
+pub ended : (f : ℕ → Result ℕ H3Error) (hs : List ℕ) (i end room : ℕ) → i ≡ length hs
+    → end ≡ total (sizes_of (map f (take i hs))) → end ≤ room
     → fitting room (sizes_of (map f hs)) ≡ length hs
 ended f hs i end room last is within =
     let same : total (sizes_of (map f (take i hs))) ≡ total (sizes_of (map f hs)) = ap total (up_to-all f hs i last) in
@@ -146,8 +159,10 @@ ended-starts f hs i fits last is =
 
 -- ---- cells from a place on
 
-pub put-next : (before yielded : List Address) (c : Address) (first out : List ℕ) (i : ℕ) → i ≡ length before + length yielded → i < length first
-    → out ≡ laid_over (indexes (before ++ yielded)) first → slice_set out i (number_of c) ≡ laid_over (indexes (before ++ (yielded ++ c ∷ []))) first
+pub put-next : (before yielded : List Address) (c : Address) (first out : List ℕ) (i : ℕ)
+    → i ≡ length before + length yielded → i < length first
+    → out ≡ laid_over (indexes (before ++ yielded)) first
+    → slice_set out i (number_of c) ≡ laid_over (indexes (before ++ (yielded ++ c ∷ []))) first
 put-next before yielded c first out i is room put =
     let here : length (before ++ yielded) ≡ i = length-append before yielded ∙ sym is in
     ap (λ l. slice_set l i (number_of c)) put
@@ -173,13 +188,15 @@ sized (Ok c) res o ds = by_refusal (o c)
     by_refusal (Some e) = refl
 
 pub child_size : (h : ℕ) (res : ℤ) → cell_to_children_size h res ≡ count_of (cell_to_children h res)
-child_size h res = sized (cell_from h) res (λ c. descent_refusal (resolution c) res) (λ c. descendants c (unsigned_abs res))
+child_size h res =
+    sized (cell_from h) res (λ c. descent_refusal (resolution c) res) (λ c. descendants c (unsigned_abs res))
 
 length-listed : (r : Result (List Address) H3Error) → length (result_unwrap_or r []) ≡ result_unwrap_or (count_of r) 0
 length-listed (Ok cs) = refl
 length-listed (Err e) = refl
 
-pub length-own : (h : ℕ) (res : ℤ) → length (result_unwrap_or (cell_to_children h res) []) ≡ result_unwrap_or (cell_to_children_size h res) 0
+pub length-own : (h : ℕ) (res : ℤ)
+    → length (result_unwrap_or (cell_to_children h res) []) ≡ result_unwrap_or (cell_to_children_size h res) 0
 length-own h res = length-listed (cell_to_children h res) ∙ ap (λ r. result_unwrap_or r 0) (sym (child_size h res))
 
 pub length-children : (res : ℤ) (hs : List ℕ) → length (all_children res hs) ≡ total (sizes_of (child_sizes res hs))
@@ -192,22 +209,27 @@ length-children res (h ∷ hs) =
 
 -- those of one index more
 children-one : (res : ℤ) (hs : List ℕ) (i : ℕ) → i < length hs
-    → all_children res (take (suc i) hs) ≡ all_children res (take i hs) ++ result_unwrap_or (cell_to_children (slice_index_or hs i 0) res) []
+    → all_children res (take (suc i) hs)
+    ≡ all_children res (take i hs) ++ result_unwrap_or (cell_to_children (slice_index_or hs i 0) res) []
 children-one res [] i room = absurd (omega (arith, room))
 children-one res (h ∷ hs) zero room = append-nil (result_unwrap_or (cell_to_children h res) [])
 children-one res (h ∷ hs) (suc i) room =
     let own = result_unwrap_or (cell_to_children h res) [] in
     ap (λ l. own ++ l) (children-one res hs i (omega (arith, room)))
-    ∙ sym (append_assoc own (all_children res (take i hs)) (result_unwrap_or (cell_to_children (slice_index_or hs i 0) res) []))
+    ∙ sym (append_assoc own (all_children res (take i hs))
+    (result_unwrap_or (cell_to_children (slice_index_or hs i 0) res) []))
 
 pub children-next : (res : ℤ) (hs : List ℕ) (i : ℕ) → i < length hs
-    → all_children res (take (i + 1) hs) ≡ all_children res (take i hs) ++ result_unwrap_or (cell_to_children (slice_index_or hs i 0) res) []
+    → all_children res (take (i + 1) hs)
+    ≡ all_children res (take i hs) ++ result_unwrap_or (cell_to_children (slice_index_or hs i 0) res) []
 children-next res hs i room =
     let next : i + 1 ≡ suc i = omega arith in
     ap (λ n. all_children res (take n hs)) next ∙ children-one res hs i room
 
 pub children-split : (res : ℤ) (hs : List ℕ) (i : ℕ) → i < length hs
-    → all_children res hs ≡ (all_children res (take i hs) ++ result_unwrap_or (cell_to_children (slice_index_or hs i 0) res) []) ++ all_children res (drop (suc i) hs)
+    → all_children res hs
+    ≡ (all_children res (take i hs) ++ result_unwrap_or (cell_to_children (slice_index_or hs i 0) res) [])
+    ++ all_children res (drop (suc i) hs)
 children-split res [] i room = absurd (omega (arith, room))
 children-split res (h ∷ hs) zero room = refl
 children-split res (h ∷ hs) (suc i) room =
@@ -241,14 +263,16 @@ start-first place (n ∷ ns) = refl
 
 -- those after a list that ends where the first begins
 between : (res : ℤ) (hs : List ℕ) (before : List Address) (place i : ℕ) → length before ≡ place → i < length hs
-    → slice_range (before ++ all_children res hs) (slice_index (starts_from place (sizes_of (child_sizes res hs))) i) (slice_index (starts_from place (sizes_of (child_sizes res hs))) (suc i))
+    → slice_range (before ++ all_children res hs) (slice_index (starts_from place (sizes_of (child_sizes res hs))) i)
+    (slice_index (starts_from place (sizes_of (child_sizes res hs))) (suc i))
     ≡ result_unwrap_or (cell_to_children (slice_index hs i) res) []
 unfolding starts_from
 between res [] before place i long room = absurd (omega (arith, room))
 between res (h ∷ hs) before place zero long room =
     let own = result_unwrap_or (cell_to_children h res) [] in
     let size = result_unwrap_or (cell_to_children_size h res) 0 in
-    let next : slice_index (starts_from (place + size) (sizes_of (child_sizes res hs))) 0 ≡ place + size = start-first (place + size) (sizes_of (child_sizes res hs)) in
+    let next : slice_index (starts_from (place + size) (sizes_of (child_sizes res hs))) 0 ≡ place + size =
+    start-first (place + size) (sizes_of (child_sizes res hs)) in
     let many : place + size - place ≡ length own = omega (arith, length-own h res) in
     ap (λ n. take (n - place) (drop place (before ++ (own ++ all_children res hs)))) next
     ∙ ap (λ n. take n (drop place (before ++ (own ++ all_children res hs)))) many
@@ -260,7 +284,8 @@ between res (h ∷ hs) before place (suc i) long room =
     let size = result_unwrap_or (cell_to_children_size h res) 0 in
     let starts = starts_from (place + size) (sizes_of (child_sizes res hs)) in
     let on : length (before ++ own) ≡ place + size = omega (arith, length-append before own, long, length-own h res) in
-    ap (λ l. slice_range l (slice_index starts i) (slice_index starts (suc i))) (sym (append_assoc before own (all_children res hs)))
+    ap (λ l. slice_range l (slice_index starts i) (slice_index starts (suc i)))
+    (sym (append_assoc before own (all_children res hs)))
     ∙ between res hs (before ++ own) (place + size) i on (omega (arith, room))
 
 pub stand_at_starts : (res : ℤ) (hs : List ℕ) → StandAtStarts res hs

@@ -26,7 +26,8 @@ unfolding written
 length-written [] = refl
 length-written (x ∷ xs) = ap suc (length-written xs)
 
-pub given-more : {A : Type 0} (xs : List A) (x : A) (rest : List (Result A H3Error)) → given (written xs ++ Ok x ∷ rest) ≡ xs ++ x ∷ given rest
+pub given-more : {A : Type 0} (xs : List A) (x : A) (rest : List (Result A H3Error))
+    → given (written xs ++ Ok x ∷ rest) ≡ xs ++ x ∷ given rest
 unfolding given written
 given-more [] x rest = refl
 given-more (y ∷ xs) x rest = ap (λ l. y ∷ l) (given-more xs x rest)
@@ -36,20 +37,23 @@ unfolding given written
 given-whole [] = refl
 given-whole (x ∷ xs) = ap (λ l. x ∷ l) (given-whole xs)
 
-pub given-error : {A : Type 0} (xs : List A) (e : H3Error) (rest : List (Result A H3Error)) → given (written xs ++ Err e ∷ rest) ≡ xs
+pub given-error : {A : Type 0} (xs : List A) (e : H3Error) (rest : List (Result A H3Error))
+    → given (written xs ++ Err e ∷ rest) ≡ xs
 unfolding given written
 given-error [] e rest = refl
 given-error (x ∷ xs) e rest = ap (λ l. x ∷ l) (given-error xs e rest)
 
 -- where what comes after them has no room
-pub code-full : {A : Type 0} (xs : List A) (x : A) (rest : List (Result A H3Error)) (n : ℕ) → n ≡ length xs → items_code (written xs ++ Ok x ∷ rest) n ≡ 14
+pub code-full : {A : Type 0} (xs : List A) (x : A) (rest : List (Result A H3Error)) (n : ℕ) → n ≡ length xs
+    → items_code (written xs ++ Ok x ∷ rest) n ≡ 14
 unfolding items_code written
 code-full [] x rest zero is = refl
 code-full [] x rest (suc n) is = absurd (omega (arith, is))
 code-full (y ∷ xs) x rest zero is = absurd (omega (arith, is))
 code-full (y ∷ xs) x rest (suc n) is = code-full xs x rest n (omega (arith, is))
 
-pub code-error : {A : Type 0} (xs : List A) (e : H3Error) (rest : List (Result A H3Error)) (n : ℕ) → length xs ≤ n → items_code (written xs ++ Err e ∷ rest) n ≡ error_number e
+pub code-error : {A : Type 0} (xs : List A) (e : H3Error) (rest : List (Result A H3Error)) (n : ℕ) → length xs ≤ n
+    → items_code (written xs ++ Err e ∷ rest) n ≡ error_number e
 unfolding items_code written
 code-error [] e rest n fits = refl
 code-error (y ∷ xs) e rest zero fits = absurd (omega (arith, fits))
@@ -76,7 +80,8 @@ pub room-all : {A : Type 0} (f : A → ℕ) (xs : List A) (n : ℕ) → length x
 room-all f xs n fits = take_all n (map f xs) (rw length-map fits)
 
 -- those that have room, where the next has none
-pub room-full : {A : Type 0} (f : A → ℕ) (xs more : List A) (n : ℕ) → n ≡ length xs → take n (map f (xs ++ more)) ≡ map f xs
+pub room-full : {A : Type 0} (f : A → ℕ) (xs more : List A) (n : ℕ) → n ≡ length xs
+    → take n (map f (xs ++ more)) ≡ map f xs
 room-full f xs more n is =
     ap (λ l. take n l) (map-append f xs more)
     ∙ take-append-le n (map f xs) (map f more) (rw length-map (omega (arith, is)))

@@ -47,7 +47,8 @@ the_cells (Some cells) some = (cells, refl)
 -- ---- judged one by one
 
 -- where the first i are cells', and the next is none's, it is the first that is none's
-pub judged-error : (hs : List ℕ) (i : ℕ) → i < length hs → cells_in (take i hs) ≢ None → cell_in (slice_index_or hs i 0) ≡ None → (first_code (judged hs) ≡ 5) × (first_place (judged hs) ≡ i)
+pub judged-error : (hs : List ℕ) (i : ℕ) → i < length hs → cells_in (take i hs) ≢ None
+    → cell_in (slice_index_or hs i 0) ≡ None → (first_code (judged hs) ≡ 5) × (first_place (judged hs) ≡ i)
 unfolding cells_in first_code first_place
 judged-error [] i room before here = absurd (omega (arith, room))
 judged-error (h ∷ hs) zero room before here = rw (here) (refl, refl)
@@ -57,7 +58,8 @@ judged-error (h ∷ hs) (suc i) room before here =
     rw (is) (later.0, ap suc later.1)
 
 -- where all are cells'
-pub judged-ok : (hs : List ℕ) → cells_in hs ≢ None → (first_code (judged hs) ≡ 0) × (first_place (judged hs) ≡ length hs)
+pub judged-ok : (hs : List ℕ) → cells_in hs ≢ None
+    → (first_code (judged hs) ≡ 0) × (first_place (judged hs) ≡ length hs)
 unfolding cells_in first_code first_place
 judged-ok [] some = (refl, refl)
 judged-ok (h ∷ hs) some =
@@ -80,7 +82,9 @@ module _ (zones : List Address) (hs counts : List ℕ) (others i : ℕ) (inv : I
       omega (arith, inv.counted.all, cells_in-length (take i hs) inv.cells inv.read, length-take i hs, room)
 
   -- one more
-  pub counted-next : (x : Address) (more : List ℕ) (rest : ℕ) → i < length hs → cell_in (slice_index_or hs i 0) ≡ Some x → ((cells : List Address) → AreCounts zones cells counts others → AreCounts zones (cells ++ x ∷ []) more rest) → IsCounting zones hs more rest (i + 1)
+  pub counted-next : (x : Address) (more : List ℕ) (rest : ℕ) → i < length hs → cell_in (slice_index_or hs i 0) ≡ Some x
+      → ((cells : List Address) → AreCounts zones cells counts others → AreCounts zones (cells ++ x ∷ []) more rest)
+      → IsCounting zones hs more rest (i + 1)
   counted-next x more rest room is next =
       let up : i + 1 ≡ suc i = omega arith in
       record {
@@ -90,18 +94,21 @@ module _ (zones : List Address) (hs counts : List ℕ) (others i : ℕ) (inv : I
       }
 
   -- all
-  pub counted-all : length hs ≤ i → (cells : List Address) → cells_in hs ≡ Some cells → AreCounts zones cells counts others
+  pub counted-all : length hs ≤ i → (cells : List Address) → cells_in hs ≡ Some cells
+      → AreCounts zones cells counts others
   counted-all end cells read =
       let whole : take i hs ≡ hs = take_all i hs end in
       let same : inv.cells ≡ cells = ap (λ o. unwrap_or o []) (sym inv.read ∙ ap cells_in whole ∙ read) in
       rw (sym same) inv.counted
 
-pub begun : NothingCounted → (zones : List Address) (hs counts : List ℕ) → counts ≡ replicate {A = ℕ} (length zones) 0 → IsCounting zones hs counts 0 0
+pub begun : NothingCounted → (zones : List Address) (hs counts : List ℕ) → counts ≡ replicate {A = ℕ} (length zones) 0
+    → IsCounting zones hs counts 0 0
 unfolding cells_in
 begun nothing zones hs counts is = record { cells = []; read = refl; counted = rw is (nothing zones) }
 
 -- no index is none's, where all are cells'
-pub none_missing : (hs : List ℕ) (i : ℕ) → cells_in hs ≢ None → i < length hs → cell_in (slice_index_or hs i 0) ≡ None → ⊥
+pub none_missing : (hs : List ℕ) (i : ℕ) → cells_in hs ≢ None → i < length hs → cell_in (slice_index_or hs i 0) ≡ None
+    → ⊥
 none_missing hs i some room here = some (cells_in-none hs i room here)
 
 -- ---- what is written for counts
@@ -164,11 +171,17 @@ pub read-indexes : NumbersAreRead → (zones : List Address) → All IsCell zone
 unfolding cells_in
 read-indexes reads [] valid = refl
 read-indexes reads (z ∷ zones) valid =
-    rw (reads z (valid 0 z (omega arith)), read-indexes reads zones (λ i d lt. valid (suc i) d (omega (arith, lt)))) refl
+    rw (
+      reads z (valid 0 z (omega arith)),
+      read-indexes reads zones (λ i d lt. valid (suc i) d (omega (arith, lt))),
+    ) refl
 
-pub zones_over : NumbersAreRead → (hs old new : List ℕ) (given zones : List Address) → cells_in hs ≡ Some given → IsPermutation given zones → IsZones zones → length hs ≤ length old → new ≡ laid_over (indexes zones) old → AreZonesOver hs old new
+pub zones_over : NumbersAreRead → (hs old new : List ℕ) (given zones : List Address) → cells_in hs ≡ Some given
+    → IsPermutation given zones → IsZones zones → length hs ≤ length old → new ≡ laid_over (indexes zones) old
+    → AreZonesOver hs old new
 zones_over reads hs old new given zones read same in_order room written =
-    let size : length (indexes zones) ≡ length hs = length-map_of (λ c. number_of c) zones ∙ length_permutation given zones same ∙ cells_in-length hs given read in
+    let size : length (indexes zones) ≡ length hs =
+    length-map_of (λ c. number_of c) zones ∙ length_permutation given zones same ∙ cells_in-length hs given read in
     let front = laid_over-front (indexes zones) old (length hs) size room in
     record {
       given = given;
@@ -177,5 +190,7 @@ zones_over reads hs old new given zones read same in_order room written =
       same = same;
       in_order = in_order;
       written = written;
-      read_again = rw (written, sym front, take_front (indexes zones) (drop (length hs) old) (length hs) size) (read-indexes reads zones in_order.valid);
+      read_again =
+          rw (written, sym front, take_front (indexes zones) (drop (length hs) old) (length hs) size)
+          (read-indexes reads zones in_order.valid);
     }

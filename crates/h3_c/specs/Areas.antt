@@ -60,9 +60,9 @@ abbrev pub areas_code : List ℕ → List ℕ → ℕ → ℕ
 areas_code hs numbers room = if nat_le (length hs) room then code_of (areas_from hs numbers) else 14
 
 -- the areas of pairs were put as zones, with the number of the area beside each: some of the pairs, of whose cells no
--- two overlap, by which each cell lies in the same areas. So left out are a cell below another of the same area, and all
--- but one of the same cells of an area. What is found beside the zone of a cell is the number of the area that it lies
--- in, or -1
+-- two overlap, by which each cell lies in the same areas. So left out are a cell below another of the same area, and
+-- all but one of the same cells of an area. What is found beside the zone of a cell is the number of the area that it
+-- lies in, or -1
 pub record AreAreasPut (pairs : List (Address × ℕ)) (old new old_numbers new_numbers : List ℕ) (n : ℕ) : Type 0 where
   pub areas : List (Address × ℕ)
   pub chosen : AreChosen areas pairs

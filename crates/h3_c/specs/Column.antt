@@ -28,7 +28,8 @@ column_code outcomes room = if nat_le (length outcomes) room then first_code out
 -- what was there, where there is too little room
 abbrev pub column_over : {A : Type 0} → A → List (Result A H3Error) → List A → List A
 column_over missing outcomes old =
-    if nat_le (length outcomes) (length old) then laid_over (map (λ r. result_unwrap_or r missing) outcomes) old else old
+    if nat_le (length outcomes) (length old) then laid_over (map (λ r. result_unwrap_or r missing) outcomes) old
+    else old
 
 -- place_over outcomes room old: `first_place`, or what was there, where there is too little room
 abbrev pub place_over : {A : Type 0} → List (Result A H3Error) → ℕ → ℕ → ℕ

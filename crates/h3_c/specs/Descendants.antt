@@ -9,5 +9,6 @@ end_after place count room = if nat_le (place + count) room then Some (place + c
 
 -- PutAfter place cells old new: where as many cells as a place says are laid over a list, these come after them
 abbrev pub PutAfter : ℕ → List Address → List ℕ → List ℕ → Type 0
-PutAfter place cells old new = (before : List Address) → (first : List ℕ) → length before ≡ place → old ≡ laid_over (indexes before) first
+PutAfter place cells old new =
+    (before : List Address) → (first : List ℕ) → length before ≡ place → old ≡ laid_over (indexes before) first
     → new ≡ laid_over (indexes (before ++ cells)) first

@@ -1,5 +1,5 @@
--- What a function of one index returns, as C sees it. Private contracts and proofs alone cite this file: the contract of each
--- function says which definition it is.
+-- What a function of one index returns, as C sees it. Private contracts and proofs alone cite this file: the contract
+-- of each function says which definition it is.
 use Rattle.std.specs.Prelude.{ℕ, ℤ, Result, Err}
 use Rattle.h3_index.specs.declared.error.H3Error.{H3Error}
 use Rattle.h3_index.specs.declared.error.H3Error.TheVariants.{Failed}

@@ -52,12 +52,14 @@ past_all_places : starts_place (Ok (2 ^ 63 - 1) ∷ Ok 0 ∷ Ok 1 ∷ []) 4 9 �
 unfolding fitting
 past_all_places = refl
 
-starts_up_to_it : starts_over (Ok (2 ^ 63 - 1) ∷ Ok 0 ∷ Ok 1 ∷ []) (9 ∷ 9 ∷ 9 ∷ 9 ∷ []) ≡ 0 ∷ (2 ^ 63 - 1) ∷ (2 ^ 63 - 1) ∷ 9 ∷ []
+starts_up_to_it : starts_over (Ok (2 ^ 63 - 1) ∷ Ok 0 ∷ Ok 1 ∷ []) (9 ∷ 9 ∷ 9 ∷ 9 ∷ [])
+    ≡ 0 ∷ (2 ^ 63 - 1) ∷ (2 ^ 63 - 1) ∷ 9 ∷ []
 unfolding fitting laid_over starts_from
 starts_up_to_it = refl
 
 -- a pentagon, what is no cell, and a finer cell; and a pentagon, what is no cell, and a hexagon
-sizes : child_sizes (pos 1) (0x8009fffffffffff ∷ 5 ∷ 0x85283473fffffff ∷ []) ≡ Ok 6 ∷ Err CellInvalid ∷ Err ResDomain ∷ []
+sizes : child_sizes (pos 1) (0x8009fffffffffff ∷ 5 ∷ 0x85283473fffffff ∷ [])
+    ≡ Ok 6 ∷ Err CellInvalid ∷ Err ResDomain ∷ []
 unfolding cell_in address_in number_of number_below descendants paths
 sizes = refl
 

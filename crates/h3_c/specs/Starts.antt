@@ -27,13 +27,15 @@ fitting room (size ∷ sizes) = if nat_le size room then suc (fitting (room - si
 
 -- lists_code outcomes room: the number of the first error, or 0; or 14 where not all the lists have room
 abbrev pub lists_code : List (Result ℕ H3Error) → ℕ → ℕ
-lists_code outcomes room = if nat_le (length outcomes) (fitting room (sizes_of outcomes)) then first_code outcomes else 14
+lists_code outcomes room =
+    if nat_le (length outcomes) (fitting room (sizes_of outcomes)) then first_code outcomes else 14
 
 -- lists_place outcomes room: the place of the first error, or how many outcomes there are; or the place of the first
 -- list that has no room
 abbrev pub lists_place : List (Result ℕ H3Error) → ℕ → ℕ
 lists_place outcomes room =
-    if nat_le (length outcomes) (fitting room (sizes_of outcomes)) then first_place outcomes else fitting room (sizes_of outcomes)
+    if nat_le (length outcomes) (fitting room (sizes_of outcomes)) then first_place outcomes
+    else fitting room (sizes_of outcomes)
 
 -- ---- the places where they begin, which C's `int64_t` holds
 
@@ -45,8 +47,8 @@ greatest_place = 2 ^ 63 - 1
 abbrev pub starts_code : List (Result ℕ H3Error) → ℕ → ℕ
 starts_code outcomes room = if nat_lt (length outcomes) room then lists_code outcomes greatest_place else 14
 
--- starts_over outcomes old: the places where the lists begin, and where the last one ends, up to the greatest place, laid
--- over what was there; or what was there, where there is too little room
+-- starts_over outcomes old: the places where the lists begin, and where the last one ends, up to the greatest place,
+-- laid over what was there; or what was there, where there is too little room
 abbrev pub starts_over : List (Result ℕ H3Error) → List ℕ → List ℕ
 starts_over outcomes old =
     if nat_lt (length outcomes) (length old)
@@ -68,18 +70,21 @@ child_sizes res cells = map (λ h. cell_to_children_size h res) cells
 abbrev pub all_children : ℤ → List ℕ → List Address
 all_children res cells = flat_map (λ h. result_unwrap_or (cell_to_children h res) []) cells
 
--- StandAtStarts res cells: in the list of all children those of each index are from the place where they begin up to the
--- next one
+-- StandAtStarts res cells: in the list of all children those of each index are from the place where they begin up to
+-- the next one
 abbrev pub StandAtStarts : ℤ → List ℕ → Type 0
 StandAtStarts res cells = (i : ℕ) → i < length cells
-    → slice_range (all_children res cells) (slice_index (starts_from 0 (sizes_of (child_sizes res cells))) i) (slice_index (starts_from 0 (sizes_of (child_sizes res cells))) (i + 1))
+    → slice_range (all_children res cells) (slice_index (starts_from 0 (sizes_of (child_sizes res cells))) i)
+    (slice_index (starts_from 0 (sizes_of (child_sizes res cells))) (i + 1))
     ≡ result_unwrap_or (cell_to_children (slice_index cells i) res) []
 
 -- children_starts_code res cells room: `starts_code` of the children, or 4 where the number is no resolution
 abbrev pub children_starts_code : ℤ → List ℕ → ℕ → ℕ
-children_starts_code res cells room = if_resolution res (starts_code (child_sizes res cells) room) (error_number ResDomain)
+children_starts_code res cells room =
+    if_resolution res (starts_code (child_sizes res cells) room) (error_number ResDomain)
 
--- children_starts_over res cells old: `starts_over` of the children, or what was there, where the number is no resolution
+-- children_starts_over res cells old: `starts_over` of the children, or what was there, where the number is no
+-- resolution
 abbrev pub children_starts_over : ℤ → List ℕ → List ℕ → List ℕ
 children_starts_over res cells old = if_resolution res (starts_over (child_sizes res cells) old) old
 
@@ -93,8 +98,8 @@ children_starts_place res cells room old = if_resolution res (starts_place (chil
 abbrev pub children_code : ℤ → List ℕ → ℕ → ℕ
 children_code res cells room = if_resolution res (lists_code (child_sizes res cells) room) (error_number ResDomain)
 
--- children_over res cells old: the children's indexes laid over what was there; or what was there, where the number is no
--- resolution
+-- children_over res cells old: the children's indexes laid over what was there; or what was there, where the number is
+-- no resolution
 abbrev pub children_over : ℤ → List ℕ → List ℕ → List ℕ
 children_over res cells old = if_resolution res (laid_over (indexes (all_children res cells)) old) old
 

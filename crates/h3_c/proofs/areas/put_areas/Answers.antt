@@ -16,7 +16,12 @@ returns-in-Ok-clause-put c = λ e.
       fewer = omega (arith, size, c.in-Ok.ensures.fewer);
       size = size;
       written = c.put_slice.ensures.list ∙ ap (λ l. laid_over (indexes l) c.args.zones.now) c.cells-cells.ensures.is;
-      numbers_written = c.put_numbers.ensures ∙ ap (λ l. laid_over (map (λ p. p.1) l) c.args.numbers.now) c.pairs.ensures;
-      found = λ x n h. area_found c.coverages_decide_lists.ensures.ancestors c.areas_are_lawful.ensures.one c.in-Ok.areas c.args.pairs.now c.in-Ok.ensures.alike c.in-Ok.ensures.apart x n h;
-      nowhere = λ x none. no_area_found c.coverages_decide_lists.ensures.ancestors c.areas_are_lawful.ensures.one c.in-Ok.areas c.args.pairs.now c.in-Ok.ensures.alike c.in-Ok.ensures.apart x none;
+      numbers_written =
+          c.put_numbers.ensures ∙ ap (λ l. laid_over (map (λ p. p.1) l) c.args.numbers.now) c.pairs.ensures;
+      found =
+          λ x n h. area_found c.coverages_decide_lists.ensures.ancestors c.areas_are_lawful.ensures.one c.in-Ok.areas
+          c.args.pairs.now c.in-Ok.ensures.alike c.in-Ok.ensures.apart x n h;
+      nowhere =
+          λ x none. no_area_found c.coverages_decide_lists.ensures.ancestors c.areas_are_lawful.ensures.one
+          c.in-Ok.areas c.args.pairs.now c.in-Ok.ensures.alike c.in-Ok.ensures.apart x none;
     }

@@ -9,4 +9,5 @@ loop-i-init c = refl
 
 pub loop-i-preserved : goal.loop-i-preserved
 loop-i-preserved c =
-    numbers_next c.args.pairs.now c.args.numbers.now c.loop-i.numbers c.loop-i.i c.index-pairs-i.result c.loop-i-test.true c.requires c.loop-i.invariant
+    numbers_next c.args.pairs.now c.args.numbers.now c.loop-i.numbers c.loop-i.i c.index-pairs-i.result
+    c.loop-i-test.true c.requires c.loop-i.invariant

@@ -18,7 +18,8 @@ loop-i-preserved g c =
     let rs = map (λ h. g.Q.ColumnFunction.outcome c.args.question.now h) (take i hs) in
     let more : map (λ h. g.Q.ColumnFunction.outcome c.args.question.now h) (take (i + 1) hs) ≡ rs ++ r ∷ [] =
     up_to-next (λ h. g.Q.ColumnFunction.outcome c.args.question.now h) hs i r c.loop-i-test.true c.ask-answer.ensures in
-    let long : length rs ≡ i = length-up_to (λ h. g.Q.ColumnFunction.outcome c.args.question.now h) hs i (omega (arith, c.loop-i-test.true)) in
+    let long : length rs ≡ i =
+    length-up_to (λ h. g.Q.ColumnFunction.outcome c.args.question.now h) hs i (omega (arith, c.loop-i-test.true)) in
     let room : length rs < length c.args.out.now = omega (arith, long, c.loop-i-test.true, c.requires.room) in
     let put : c.match-answer.out ≡ result_unwrap_or r c.args.missing = elim c.match-answer.branch [
       | in-Ok w ↦ w.out-is ∙ sym (ap (λ r. result_unwrap_or r c.args.missing) w.in-Ok.is)
@@ -26,8 +27,11 @@ loop-i-preserved g c =
     ] in
     record {
       few = rw c.from.ensures (few-next c.loop-i.missed i _ c.loop-i.invariant.few);
-      whole = rw (more, c.from.ensures, c.is_err.ensures.value) (missed-next c.loop-i.missed rs r c.loop-i.invariant.whole);
-      values = values-next c.args.missing rs r c.args.out.now c.loop-i.out i c.match-answer.out long room c.loop-i.invariant.values put
+      whole =
+          rw (more, c.from.ensures, c.is_err.ensures.value) (missed-next c.loop-i.missed rs r c.loop-i.invariant.whole);
+      values =
+          values-next c.args.missing rs r c.args.out.now c.loop-i.out i c.match-answer.out long room
+          c.loop-i.invariant.values put
           ∙ ap (λ rs. laid_over (map (λ r. result_unwrap_or r c.args.missing) rs) c.args.out.now) (sym more);
     }
 
@@ -37,7 +41,8 @@ returns-clause-values g c =
     let end : c.loop-i.i ≡ length hs = omega (arith, c.loop-i.auto.i-end, c.loop-i-test.false) in
     let all : map (λ h. g.Q.ColumnFunction.outcome c.args.question.now h) (take c.loop-i.i hs) ≡ map (λ h. g.Q.ColumnFunction.outcome c.args.question.now h) hs =
     ap (λ n. map (λ h. g.Q.ColumnFunction.outcome c.args.question.now h) (take n hs)) end ∙ whole (λ h. g.Q.ColumnFunction.outcome c.args.question.now h) hs in
-    c.loop-i.invariant.values ∙ ap (λ rs. laid_over (map (λ r. result_unwrap_or r c.args.missing) rs) c.args.out.now) all
+    c.loop-i.invariant.values
+    ∙ ap (λ rs. laid_over (map (λ r. result_unwrap_or r c.args.missing) rs) c.args.out.now) all
 
 pub returns-clause-none : goal.returns-clause-none
 returns-clause-none g c =

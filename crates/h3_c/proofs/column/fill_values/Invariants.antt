@@ -8,5 +8,7 @@ abbrev pub invariant-loop-i : goal.invariant-loop-i
 invariant-loop-i g l = record {
   few : l.missed ≤ l.i;
   whole : (l.missed == 0) ≡ (first_code (map (λ h. g.Q.ColumnFunction.outcome l.question h) (take l.i l.indexes)) == 0);
-  values : l.out ≡ laid_over (map (λ r. result_unwrap_or r l.missing) (map (λ h. g.Q.ColumnFunction.outcome l.question h) (take l.i l.indexes))) l.initial.out;
+  values : l.out
+      ≡ laid_over (map (λ r. result_unwrap_or r l.missing)
+      (map (λ h. g.Q.ColumnFunction.outcome l.question h) (take l.i l.indexes))) l.initial.out;
 }

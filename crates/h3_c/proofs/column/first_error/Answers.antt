@@ -10,12 +10,16 @@ loop-place-init g c = refl
 
 pub returns-in-Err-clause-code : goal.returns-in-Err-clause-code
 returns-in-Err-clause-code g c =
-    let first = found (λ h. g.Q.ColumnFunction.outcome c.args.question.now h) c.args.indexes.now c.loop-place.place c.in-Err.error c.loop-place-test.true c.loop-place.invariant (sym c.in-Err.is ∙ c.ask.ensures) in
+    let first =
+    found (λ h. g.Q.ColumnFunction.outcome c.args.question.now h) c.args.indexes.now c.loop-place.place
+    c.in-Err.error c.loop-place-test.true c.loop-place.invariant (sym c.in-Err.is ∙ c.ask.ensures) in
     c.from.ensures ∙ c.number.ensures ∙ sym first.0
 
 pub returns-in-Err-clause-place : goal.returns-in-Err-clause-place
 returns-in-Err-clause-place g c =
-    let first = found (λ h. g.Q.ColumnFunction.outcome c.args.question.now h) c.args.indexes.now c.loop-place.place c.in-Err.error c.loop-place-test.true c.loop-place.invariant (sym c.in-Err.is ∙ c.ask.ensures) in
+    let first =
+    found (λ h. g.Q.ColumnFunction.outcome c.args.question.now h) c.args.indexes.now c.loop-place.place
+    c.in-Err.error c.loop-place-test.true c.loop-place.invariant (sym c.in-Err.is ∙ c.ask.ensures) in
     sym first.1
 
 pub loop-place-preserved : goal.loop-place-preserved
@@ -39,5 +43,7 @@ returns-clause-place g c =
     let end : c.loop-place.place ≡ length hs = omega (arith, c.loop-place.auto.place-end, c.loop-place-test.false) in
     let all : map (λ h. g.Q.ColumnFunction.outcome c.args.question.now h) (take c.loop-place.place hs) ≡ map (λ h. g.Q.ColumnFunction.outcome c.args.question.now h) hs =
     ap (λ n. map (λ h. g.Q.ColumnFunction.outcome c.args.question.now h) (take n hs)) end ∙ whole (λ h. g.Q.ColumnFunction.outcome c.args.question.now h) hs in
-    let none : first_code (map (λ h. g.Q.ColumnFunction.outcome c.args.question.now h) hs) ≡ 0 = sym (ap first_code all) ∙ c.loop-place.invariant in
-    sym (place-none (map (λ h. g.Q.ColumnFunction.outcome c.args.question.now h) hs) none ∙ length-map hs (λ h. g.Q.ColumnFunction.outcome c.args.question.now h))
+    let none : first_code (map (λ h. g.Q.ColumnFunction.outcome c.args.question.now h) hs) ≡ 0 =
+    sym (ap first_code all) ∙ c.loop-place.invariant in
+    sym (place-none (map (λ h. g.Q.ColumnFunction.outcome c.args.question.now h) hs) none
+    ∙ length-map hs (λ h. g.Q.ColumnFunction.outcome c.args.question.now h))

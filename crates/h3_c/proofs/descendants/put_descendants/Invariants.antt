@@ -9,5 +9,7 @@ abbrev pub invariant-loop-above : goal.invariant-loop-above
 invariant-loop-above l = record {
   count : l.end ≡ l.fn.place + length (flat_map (λ c. descendants c l.fn.r) l.yielded);
   within : l.end ≤ length l.initial.out;
-  put : (before : List Address) → (first : List ℕ) → length before ≡ l.fn.place → l.initial.out ≡ laid_over (indexes before) first → l.out ≡ laid_over (indexes (before ++ flat_map (λ c. descendants c l.fn.r) l.yielded)) first;
+  put : (before : List Address) → (first : List ℕ) → length before ≡ l.fn.place
+      → l.initial.out ≡ laid_over (indexes before) first
+      → l.out ≡ laid_over (indexes (before ++ flat_map (λ c. descendants c l.fn.r) l.yielded)) first;
 }

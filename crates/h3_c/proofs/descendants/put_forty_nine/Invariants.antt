@@ -5,4 +5,7 @@ use Rattle.h3_c.proofs.DescendantLaws.{grandchildren_below}
 use Rattle.h3_c.proofs.descendants.put_forty_nine.Given as goal
 
 abbrev pub invariant-loop-digit : goal.invariant-loop-digit
-invariant-loop-digit l = (before : List Address) → (first : List ℕ) → length before ≡ l.place → l.initial.out ≡ laid_over (indexes before) first → l.out ≡ laid_over (indexes (before ++ grandchildren_below l.cell l.digit)) first
+invariant-loop-digit l =
+    (before : List Address) → (first : List ℕ) → length before ≡ l.place
+    → l.initial.out ≡ laid_over (indexes before) first
+    → l.out ≡ laid_over (indexes (before ++ grandchildren_below l.cell l.digit)) first

@@ -17,9 +17,16 @@ returns-then-out-place-lt7-clause-put c =
 
 pub returns-clause-end : goal.returns-clause-end
 returns-clause-end c =
-    let long : length (descendants c.args.cell c.args.r) ≡ 7 = ap (λ r. length (descendants c.args.cell r)) c.requires.level ∙ length-seven c.args.cell (sym c.if-is_pentagon.ensures) in
-    rw (long, is_no_more (c.args.place + 7) (length c.args.out.now) (omega (arith, c.if-out-place-lt7.false, c.requires.within))) refl
+    let long : length (descendants c.args.cell c.args.r) ≡ 7 =
+    ap (λ r. length (descendants c.args.cell r)) c.requires.level
+    ∙ length-seven c.args.cell (sym c.if-is_pentagon.ensures) in
+    rw (
+      long,
+      is_no_more (c.args.place + 7) (length c.args.out.now)
+          (omega (arith, c.if-out-place-lt7.false, c.requires.within)),
+    ) refl
 
 pub returns-clause-put : goal.returns-clause-put
 returns-clause-put c before first long is =
-    c.put_seven.ensures.put before first long is ∙ ap (λ r. laid_over (indexes (before ++ descendants c.args.cell r)) first) (sym c.requires.level)
+    c.put_seven.ensures.put before first long is
+    ∙ ap (λ r. laid_over (indexes (before ++ descendants c.args.cell r)) first) (sym c.requires.level)

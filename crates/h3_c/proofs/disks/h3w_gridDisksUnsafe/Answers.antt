@@ -32,20 +32,30 @@ loop-i-preserved c =
     let before = all_disks table (take i hs) k in
     let own = walk_items (grid_disk_unsafe table (slice_index_or hs i 0) k) in
     let same : length c.loop-i.out ≡ room = c.loop-i.auto.out in
-    let none : items_code own (room - place) ≡ 0 = ap (λ n. items_code own (n - place)) (sym same) ∙ sym c.put_disk_of-code.ensures.code ∙ c.if-code-ne0.false in
-    let next : all_disks table (take (i + 1) hs) k ≡ before ++ own = flat-next (λ h. walk_items (grid_disk_unsafe table h k)) hs i c.loop-i-test.true in
+    let none : items_code own (room - place) ≡ 0 =
+    ap (λ n. items_code own (n - place)) (sym same) ∙ sym c.put_disk_of-code.ensures.code ∙ c.if-code-ne0.false in
+    let next : all_disks table (take (i + 1) hs) k ≡ before ++ own =
+    flat-next (λ h. walk_items (grid_disk_unsafe table h k)) hs i c.loop-i-test.true in
     let end : c.put_disk_of-code.result.1 ≡ place + length own = c.put_disk_of-code.ensures.end c.if-code-ne0.false in
     let left : room - place - length own ≡ room - c.put_disk_of-code.result.1 = omega (arith, end) in
-    let cells : given (all_disks table (take (i + 1) hs) k) ≡ given before ++ given own = ap given next ∙ c.loop-i.invariant.cells own in
+    let cells : given (all_disks table (take (i + 1) hs) k) ≡ given before ++ given own =
+    ap given next ∙ c.loop-i.invariant.cells own in
     let long = ap length cells ∙ length-append (given before) (given own) in
     record {
-      code = λ more. ap (λ l. items_code (l ++ more) room) next ∙ ap (λ l. items_code l room) (append_assoc before own more) ∙ c.loop-i.invariant.code (own ++ more)
+      code =
+          λ more. ap (λ l. items_code (l ++ more) room) next
+          ∙ ap (λ l. items_code l room) (append_assoc before own more) ∙ c.loop-i.invariant.code (own ++ more)
           ∙ code-whole own more (room - place) none ∙ ap (items_code more) left;
-      cells = λ more. ap (λ l. given (l ++ more)) next ∙ ap given (append_assoc before own more) ∙ c.loop-i.invariant.cells (own ++ more)
-          ∙ ap (λ l. given before ++ l) (given-whole_more own more (room - place) none) ∙ sym (append_assoc (given before) (given own) (given more)) ∙ ap (λ l. l ++ given more) (sym cells);
+      cells =
+          λ more. ap (λ l. given (l ++ more)) next ∙ ap given (append_assoc before own more)
+          ∙ c.loop-i.invariant.cells (own ++ more)
+          ∙ ap (λ l. given before ++ l) (given-whole_more own more (room - place) none)
+          ∙ sym (append_assoc (given before) (given own) (given more)) ∙ ap (λ l. l ++ given more) (sym cells);
       place = omega (arith, end, c.loop-i.invariant.place, long, length-given own (room - place) none);
       within = omega (arith, same, c.put_disk_of-code.ensures.within);
-      put = c.put_disk_of-code.ensures.put (given before) c.args.out.now (sym c.loop-i.invariant.place) c.loop-i.invariant.put
+      put =
+          c.put_disk_of-code.ensures.put (given before) c.args.out.now
+          (sym c.loop-i.invariant.place) c.loop-i.invariant.put
           ∙ ap (λ l. laid_over (indexes l) c.args.out.now) (sym cells);
       walks = λ more.
           let all = ap (λ l. whole_walks room (l ++ more)) (map-next (λ h. walk_items (grid_disk_unsafe table h k)) hs i c.loop-i-test.true)
@@ -63,7 +73,8 @@ returns-then-code-ne0-clause-code c =
     let own = walk_items (grid_disk_unsafe table (slice_index_or hs c.loop-i.i 0) k) in
     let rest = all_disks table (drop (suc c.loop-i.i) hs) k in
     let same : length c.loop-i.out ≡ room = c.loop-i.auto.out in
-    let code : items_code own (room - place) ≡ c.put_disk_of-code.result.0 = ap (λ n. items_code own (n - place)) (sym same) ∙ sym c.put_disk_of-code.ensures.code in
+    let code : items_code own (room - place) ≡ c.put_disk_of-code.result.0 =
+    ap (λ n. items_code own (n - place)) (sym same) ∙ sym c.put_disk_of-code.ensures.code in
     sym (ap (λ l. items_code l room) (flat-split (λ h. walk_items (grid_disk_unsafe table h k)) hs c.loop-i.i c.loop-i-test.true)
     ∙ c.loop-i.invariant.code (own ++ rest) ∙ code-ended own rest (room - place) (λ z. c.if-code-ne0.true (sym code ∙ z)) ∙ code)
     ∙ ap (λ (z : ℤ). items_code (all_disks table hs z) room) (to_z-of_z w32 c.args.k (search rules))
@@ -79,12 +90,14 @@ returns-then-code-ne0-clause-list c =
     let own = walk_items (grid_disk_unsafe table (slice_index_or hs c.loop-i.i 0) k) in
     let rest = all_disks table (drop (suc c.loop-i.i) hs) k in
     let same : length c.loop-i.out ≡ room = c.loop-i.auto.out in
-    let code : items_code own (room - place) ≡ c.put_disk_of-code.result.0 = ap (λ n. items_code own (n - place)) (sym same) ∙ sym c.put_disk_of-code.ensures.code in
+    let code : items_code own (room - place) ≡ c.put_disk_of-code.result.0 =
+    ap (λ n. items_code own (n - place)) (sym same) ∙ sym c.put_disk_of-code.ensures.code in
     c.put_disk_of-code.ensures.put (given before) c.args.out.now (sym c.loop-i.invariant.place) c.loop-i.invariant.put
     ∙ sym (ap (λ l. laid_over (indexes (given l)) c.args.out.now) (flat-split (λ h. walk_items (grid_disk_unsafe table h k)) hs c.loop-i.i c.loop-i-test.true)
     ∙ ap (λ l. laid_over (indexes l) c.args.out.now) (c.loop-i.invariant.cells (own ++ rest))
     ∙ put-ended own rest (given before) c.args.out.now (room - place) (λ z. c.if-code-ne0.true (sym code ∙ z)) (omega (arith, c.loop-i.invariant.place, c.loop-i.invariant.within)))
-    ∙ ap (λ (z : ℤ). laid_over (indexes (given (all_disks table hs z))) c.args.out.now) (to_z-of_z w32 c.args.k (search rules))
+    ∙ ap (λ (z : ℤ). laid_over (indexes (given (all_disks table hs z))) c.args.out.now)
+    (to_z-of_z w32 c.args.k (search rules))
 
 pub returns-then-code-ne0-clause-place : goal.returns-then-code-ne0-clause-place
 returns-then-code-ne0-clause-place c =
@@ -96,8 +109,12 @@ returns-then-code-ne0-clause-place c =
     let own = walk_items (grid_disk_unsafe table (slice_index_or hs c.loop-i.i 0) k) in
     let rest = disks table (drop (suc c.loop-i.i) hs) k in
     let same : length c.loop-i.out ≡ room = c.loop-i.auto.out in
-    let code : items_code own (room - place) ≡ c.put_disk_of-code.result.0 = ap (λ n. items_code own (n - place)) (sym same) ∙ sym c.put_disk_of-code.ensures.code in
-    let all = ap (whole_walks room) (map-split (λ h. walk_items (grid_disk_unsafe table h k)) hs c.loop-i.i c.loop-i-test.true) ∙ c.loop-i.invariant.walks (own ∷ rest) in
+    let code : items_code own (room - place) ≡ c.put_disk_of-code.result.0 =
+    ap (λ n. items_code own (n - place)) (sym same) ∙ sym c.put_disk_of-code.ensures.code in
+    let all =
+    ap (whole_walks room)
+    (map-split (λ h. walk_items (grid_disk_unsafe table h k)) hs c.loop-i.i c.loop-i-test.true)
+    ∙ c.loop-i.invariant.walks (own ∷ rest) in
     let ended = walks-ended own rest (room - place) (λ z. c.if-code-ne0.true (sym code ∙ z)) in
     let stopped : c.loop-i.i ≡ whole_walks room (disks table hs k) = omega (arith, all, ended) in
     stopped ∙ ap (λ (z : ℤ). whole_walks room (disks table hs z)) (to_z-of_z w32 c.args.k (search rules))
@@ -110,7 +127,8 @@ returns-clause-code c =
     let table = c.args.table.now in
     let room = length c.args.out.now in
     let whole : take c.loop-i.i hs ≡ hs = take_all c.loop-i.i hs (omega (arith, c.loop-i-test.false)) in
-    sym (ap (λ l. items_code l room) (sym (append-nil (all_disks table hs k))) ∙ ap (λ l. items_code (all_disks table l k ++ []) room) (sym whole) ∙ c.loop-i.invariant.code [])
+    sym (ap (λ l. items_code l room) (sym (append-nil (all_disks table hs k)))
+    ∙ ap (λ l. items_code (all_disks table l k ++ []) room) (sym whole) ∙ c.loop-i.invariant.code [])
     ∙ ap (λ (z : ℤ). items_code (all_disks table hs z) room) (to_z-of_z w32 c.args.k (search rules))
 
 pub returns-clause-place : goal.returns-clause-place
@@ -122,6 +140,8 @@ returns-clause-place c =
     let room = length c.args.out.now in
     let whole : take c.loop-i.i hs ≡ hs = take_all c.loop-i.i hs (omega (arith, c.loop-i-test.false)) in
     let last : c.loop-i.i ≡ length hs = omega (arith, c.loop-i.auto.i-end, c.loop-i-test.false) in
-    let all = ap (whole_walks room) (sym (append-nil (disks table hs k))) ∙ ap (λ l. whole_walks room (disks table l k ++ [])) (sym whole) ∙ c.loop-i.invariant.walks [] in
+    let all =
+    ap (whole_walks room) (sym (append-nil (disks table hs k)))
+    ∙ ap (λ l. whole_walks room (disks table l k ++ [])) (sym whole) ∙ c.loop-i.invariant.walks [] in
     let stopped : length hs ≡ whole_walks room (disks table hs k) = omega (arith, all, last) in
     stopped ∙ ap (λ (z : ℤ). whole_walks room (disks table hs z)) (to_z-of_z w32 c.args.k (search rules))

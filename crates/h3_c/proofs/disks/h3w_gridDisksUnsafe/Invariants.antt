@@ -9,10 +9,16 @@ use Rattle.h3_c.proofs.disks.h3w_gridDisksUnsafe.Given as goal
 -- all walks so far are whole
 abbrev pub invariant-loop-i : goal.invariant-loop-i
 invariant-loop-i l = record {
-  code : (more : List (Result Address H3Error)) → items_code (all_disks l.table (take l.i l.cells) l.fn.k ++ more) (length l.initial.out) ≡ items_code more (length l.initial.out - l.place);
-  cells : (more : List (Result Address H3Error)) → given (all_disks l.table (take l.i l.cells) l.fn.k ++ more) ≡ given (all_disks l.table (take l.i l.cells) l.fn.k) ++ given more;
+  code : (more : List (Result Address H3Error))
+      → items_code (all_disks l.table (take l.i l.cells) l.fn.k ++ more) (length l.initial.out)
+      ≡ items_code more (length l.initial.out - l.place);
+  cells : (more : List (Result Address H3Error))
+      → given (all_disks l.table (take l.i l.cells) l.fn.k ++ more)
+      ≡ given (all_disks l.table (take l.i l.cells) l.fn.k) ++ given more;
   place : l.place ≡ length (given (all_disks l.table (take l.i l.cells) l.fn.k));
   within : l.place ≤ length l.initial.out;
   put : l.out ≡ laid_over (indexes (given (all_disks l.table (take l.i l.cells) l.fn.k))) l.initial.out;
-  walks : (more : List (List (Result Address H3Error))) → whole_walks (length l.initial.out) (disks l.table (take l.i l.cells) l.fn.k ++ more) ≡ l.i + whole_walks (length l.initial.out - l.place) more;
+  walks : (more : List (List (Result Address H3Error)))
+      → whole_walks (length l.initial.out) (disks l.table (take l.i l.cells) l.fn.k ++ more)
+      ≡ l.i + whole_walks (length l.initial.out - l.place) more;
 }

@@ -6,5 +6,8 @@ use Rattle.h3_c.proofs.disks.put_walk_from.Given as goal
 
 -- the cells that are written so far
 abbrev pub invariant-loop-item : goal.invariant-loop-item
-invariant-loop-item g l = (cells : List Address) × (l.yielded ≡ written cells) × (l.i ≡ l.fn.place + length cells) × (l.i ≤ length l.initial.out)
-    × ((before : List Address) → (first : List ℕ) → length before ≡ l.fn.place → l.initial.out ≡ laid_over (indexes before) first → l.out ≡ laid_over (indexes (before ++ cells)) first)
+invariant-loop-item g l =
+    (cells : List Address) × (l.yielded ≡ written cells) × (l.i ≡ l.fn.place + length cells)
+    × (l.i ≤ length l.initial.out)
+    × ((before : List Address) → (first : List ℕ) → length before ≡ l.fn.place
+    → l.initial.out ≡ laid_over (indexes before) first → l.out ≡ laid_over (indexes (before ++ cells)) first)

@@ -8,5 +8,13 @@ use Rattle.h3_c.proofs.edges.h3w_originToDirectedEdges.Goals as goal
 
 pub returns-in-Ok-clause-value : goal.returns-in-Ok-clause-value
 returns-in-Ok-clause-value c =
-    rw (c.edge_or_null.ensures, c.edge_or_null-in-Ok.ensures, c.edge_or_null-in-Ok-2.ensures, c.edge_or_null-in-Ok-3.ensures, c.edge_or_null-in-Ok-4.ensures, c.edge_or_null-in-Ok-5.ensures)
-    (places c.in-Ok.cell ∙ ap (λ r. result_unwrap_or (edges_or_nulls (for_value (λ cell. Ok (edges_from cell)) r)) c.args.out.now) c.in-Ok.ensures)
+    rw (
+      c.edge_or_null.ensures,
+      c.edge_or_null-in-Ok.ensures,
+      c.edge_or_null-in-Ok-2.ensures,
+      c.edge_or_null-in-Ok-3.ensures,
+      c.edge_or_null-in-Ok-4.ensures,
+      c.edge_or_null-in-Ok-5.ensures,
+    )
+    (places c.in-Ok.cell ∙ ap (λ r. result_unwrap_or
+    (edges_or_nulls (for_value (λ cell. Ok (edges_from cell)) r)) c.args.out.now) c.in-Ok.ensures)

@@ -9,7 +9,8 @@ use Rattle.h3_c.specs.Lists.{laid_over, list_over}
 use Rattle.h3_c.proofs.hierarchy.h3w_cellToChildren.Goals as goal
 
 -- what comes after none stands at the beginning
-listed : (r : Result (List Address) H3Error) (old new : List ℕ) → PutAfter 0 (result_unwrap_or r []) old new → new ≡ list_over r old
+listed : (r : Result (List Address) H3Error) (old new : List ℕ) → PutAfter 0 (result_unwrap_or r []) old new
+    → new ≡ list_over r old
 unfolding laid_over
 listed (Ok cells) old new put = put [] old refl refl
 listed (Err e) old new put = put [] old refl refl

@@ -20,14 +20,27 @@ returns-in-Err-to_vec-clause-law c = areas_stand
 
 pub fill_areas-requires-clause-slots : goal.fill_areas-requires-clause-slots
 fill_areas-requires-clause-slots c =
-    let pairs_are = c.deref_mut.ensures.value ∙ c.in-Ok-pairs_of.ensures.pairs ∙ ap (λ l. zip l c.args.areas.now) c.deref.ensures.value in
-    omega (arith, c.of.ensures.size, ap length pairs_are, pairs_fewer c.in-Ok.given.items c.args.areas.now, c.in-Ok.ensures.long, c.if-areas-area_cells.false, c.in-Ok-to_vec.ensures.len, ap length c.deref_mut-2.ensures.value)
+    let pairs_are =
+    c.deref_mut.ensures.value ∙ c.in-Ok-pairs_of.ensures.pairs
+    ∙ ap (λ l. zip l c.args.areas.now) c.deref.ensures.value in
+    omega (
+      arith,
+      c.of.ensures.size,
+      ap length pairs_are,
+      pairs_fewer c.in-Ok.given.items c.args.areas.now,
+      c.in-Ok.ensures.long,
+      c.if-areas-area_cells.false,
+      c.in-Ok-to_vec.ensures.len,
+      ap length c.deref_mut-2.ensures.value,
+    )
 
 pub returns-clause-code : goal.returns-clause-code
 returns-clause-code c =
     let pairs = zip c.in-Ok.given.items c.args.areas.now in
     let hs = c.args.cells.now in
-    let pairs_are = c.deref_mut.ensures.value ∙ c.in-Ok-pairs_of.ensures.pairs ∙ ap (λ l. zip l c.args.areas.now) c.deref.ensures.value in
+    let pairs_are =
+    c.deref_mut.ensures.value ∙ c.in-Ok-pairs_of.ensures.pairs
+    ∙ ap (λ l. zip l c.args.areas.now) c.deref.ensures.value in
     let same = subst (λ l. IsPermutation l c.of.result) pairs_are c.of.ensures.same in
     let room = length c.args.numbers.now in
     inr (c.fill_areas.ensures.code
@@ -38,34 +51,46 @@ pub returns-clause-starts : goal.returns-clause-starts
 returns-clause-starts c = λ _.
     let pairs = zip c.in-Ok.given.items c.args.areas.now in
     let hs = c.args.cells.now in
-    let pairs_are = c.deref_mut.ensures.value ∙ c.in-Ok-pairs_of.ensures.pairs ∙ ap (λ l. zip l c.args.areas.now) c.deref.ensures.value in
+    let pairs_are =
+    c.deref_mut.ensures.value ∙ c.in-Ok-pairs_of.ensures.pairs
+    ∙ ap (λ l. zip l c.args.areas.now) c.deref.ensures.value in
     let same = subst (λ l. IsPermutation l c.of.result) pairs_are c.of.ensures.same in
     let old = c.args.starts.now in
     c.fill_areas.ensures.starts
     ∙ ap (λ l. starts_over l old) (sym (counts_same c.areas_are_lawful.ensures.in_any_order pairs c.of.result same hs))
-    ∙ sym (comes c.args.area_cells.now c.args.areas.now hs (length old) c.in-Ok.given.items c.if-areas-area_cells.false c.if-starts-cells.false c.in-Ok.ensures.read (λ areas. starts_over (area_counts areas hs) old) old old)
+    ∙ sym (comes c.args.area_cells.now c.args.areas.now hs
+    (length old) c.in-Ok.given.items c.if-areas-area_cells.false c.if-starts-cells.false c.in-Ok.ensures.read
+    (λ areas. starts_over (area_counts areas hs) old) old old)
 
 pub returns-clause-numbers : goal.returns-clause-numbers
 returns-clause-numbers c = λ _.
     let pairs = zip c.in-Ok.given.items c.args.areas.now in
     let hs = c.args.cells.now in
-    let pairs_are = c.deref_mut.ensures.value ∙ c.in-Ok-pairs_of.ensures.pairs ∙ ap (λ l. zip l c.args.areas.now) c.deref.ensures.value in
+    let pairs_are =
+    c.deref_mut.ensures.value ∙ c.in-Ok-pairs_of.ensures.pairs
+    ∙ ap (λ l. zip l c.args.areas.now) c.deref.ensures.value in
     let same = subst (λ l. IsPermutation l c.of.result) pairs_are c.of.ensures.same in
     let old = c.args.numbers.now in
     c.fill_areas.ensures.numbers
     ∙ ap (λ l. laid_over l old) (sym (all_same c.areas_are_lawful.ensures.in_any_order pairs c.of.result same hs))
-    ∙ sym (comes c.args.area_cells.now c.args.areas.now hs (length c.args.starts.now) c.in-Ok.given.items c.if-areas-area_cells.false c.if-starts-cells.false c.in-Ok.ensures.read (λ areas. laid_over (all_areas areas hs) old) old old)
+    ∙ sym (comes c.args.area_cells.now c.args.areas.now hs (length c.args.starts.now) c.in-Ok.given.items
+    c.if-areas-area_cells.false c.if-starts-cells.false c.in-Ok.ensures.read
+    (λ areas. laid_over (all_areas areas hs) old) old old)
 
 pub returns-clause-place : goal.returns-clause-place
 returns-clause-place c = λ _.
     let pairs = zip c.in-Ok.given.items c.args.areas.now in
     let hs = c.args.cells.now in
-    let pairs_are = c.deref_mut.ensures.value ∙ c.in-Ok-pairs_of.ensures.pairs ∙ ap (λ l. zip l c.args.areas.now) c.deref.ensures.value in
+    let pairs_are =
+    c.deref_mut.ensures.value ∙ c.in-Ok-pairs_of.ensures.pairs
+    ∙ ap (λ l. zip l c.args.areas.now) c.deref.ensures.value in
     let same = subst (λ l. IsPermutation l c.of.result) pairs_are c.of.ensures.same in
     let room = length c.args.numbers.now in
     c.fill_areas.ensures.place
     ∙ ap (λ l. lists_place l room) (sym (counts_same c.areas_are_lawful.ensures.in_any_order pairs c.of.result same hs))
-    ∙ sym (comes c.args.area_cells.now c.args.areas.now hs (length c.args.starts.now) c.in-Ok.given.items c.if-areas-area_cells.false c.if-starts-cells.false c.in-Ok.ensures.read (λ areas. lists_place (area_counts areas hs) room) c.args.at.now c.args.at.now)
+    ∙ sym (comes c.args.area_cells.now c.args.areas.now hs (length c.args.starts.now) c.in-Ok.given.items
+    c.if-areas-area_cells.false c.if-starts-cells.false c.in-Ok.ensures.read
+    (λ areas. lists_place (area_counts areas hs) room) c.args.at.now c.args.at.now)
 
 pub returns-clause-kept : goal.returns-clause-kept
 returns-clause-kept c = λ e. absurd (c.fill_areas.ensures.memory e)

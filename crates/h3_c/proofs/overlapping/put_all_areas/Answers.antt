@@ -13,7 +13,15 @@ use Rattle.h3_c.proofs.overlapping.put_all_areas.Goals as goal
 
 pub loop-i-init : goal.loop-i-init
 unfolding fitting laid_over
-loop-i-init c = record { few = omega arith; fits = refl; end = sym total-nil; within = omega arith; put = starts-first c.args.starts.now (omega (arith, c.requires.room)); listed = refl }
+loop-i-init c =
+    record {
+      few = omega arith;
+      fits = refl;
+      end = sym total-nil;
+      within = omega arith;
+      put = starts-first c.args.starts.now (omega (arith, c.requires.room));
+      listed = refl;
+    }
 
 pub loop-i-preserved : goal.loop-i-preserved
 loop-i-preserved c =
@@ -23,11 +31,17 @@ loop-i-preserved c =
     let h = slice_index_or hs i 0 in
     let size = c.areas_of_index-size.result in
     let ns = sizes_of (area_counts areas (take i hs)) in
-    let many : size ≡ result_unwrap_or (for_value (λ x. Ok (length (areas_of areas x))) (cell_from h)) 0 = counted areas (slice_index_or c.args.indexes.now c.loop-i.i 0) c.areas_of_index-size.result c.areas_of_index-size.new.found c.areas_of_index-size.ensures.fewer c.areas_of_index-size.ensures.are ∙ length-areas areas h in
+    let many : size ≡ result_unwrap_or (for_value (λ x. Ok (length (areas_of areas x))) (cell_from h)) 0 =
+    counted areas (slice_index_or c.args.indexes.now c.loop-i.i 0) c.areas_of_index-size.result
+    c.areas_of_index-size.new.found c.areas_of_index-size.ensures.fewer c.areas_of_index-size.ensures.are
+    ∙ length-areas areas h in
     let next : sizes_of (area_counts areas (take (i + 1) hs)) ≡ ns ++ size ∷ [] =
     sizes-next (λ k. for_value (λ x. Ok (length (areas_of areas x))) (cell_from k)) hs i (for_value (λ x. Ok (length (areas_of areas x))) (cell_from h)) c.loop-i-test.true refl ∙ ap (λ n. ns ++ n ∷ []) (sym many) in
-    let long : length ns ≡ i = length-sizes (λ k. for_value (λ x. Ok (length (areas_of areas x))) (cell_from k)) hs i (omega (arith, c.loop-i-test.true)) in
-    let sum : total (sizes_of (area_counts areas (take (i + 1) hs))) ≡ total ns + size = ap total next ∙ total-snoc ns size in
+    let long : length ns ≡ i =
+    length-sizes (λ k. for_value (λ x. Ok (length (areas_of areas x))) (cell_from k)) hs i
+    (omega (arith, c.loop-i-test.true)) in
+    let sum : total (sizes_of (area_counts areas (take (i + 1) hs))) ≡ total ns + size =
+    ap total next ∙ total-snoc ns size in
     let before = all_areas areas (take i hs) in
     let room = length c.args.numbers.now in
     let same : length c.put_numbers_from.new.out ≡ room = c.put_numbers_from.auto.out ∙ c.loop-i.auto.numbers in
@@ -41,9 +55,13 @@ loop-i-preserved c =
           ∙ ap (fitting room) (sym next);
       end = omega (arith, sum, c.loop-i.invariant.end);
       within = omega (arith, c.if-size-end.false, c.loop-i.invariant.within);
-      put = starts-next ns size i c.loop-i.end c.args.starts.now c.loop-i.starts long (omega (arith, c.loop-i-test.true, c.requires.room)) c.loop-i.invariant.end c.loop-i.invariant.put
+      put =
+          starts-next ns size i c.loop-i.end c.args.starts.now c.loop-i.starts long
+          (omega (arith, c.loop-i-test.true, c.requires.room)) c.loop-i.invariant.end c.loop-i.invariant.put
           ∙ ap (λ l. laid_over (starts_from 0 l) c.args.starts.now) (sym next);
-      listed = c.put_numbers_from.ensures before c.args.numbers.now (length-all_areas areas (take i hs) ∙ sym c.loop-i.invariant.end) c.loop-i.invariant.listed
+      listed =
+          c.put_numbers_from.ensures before c.args.numbers.now
+          (length-all_areas areas (take i hs) ∙ sym c.loop-i.invariant.end) c.loop-i.invariant.listed
           ∙ ap (λ l. laid_over (before ++ l) c.args.numbers.now) c.areas_of_index-size.ensures.are
           ∙ ap (λ l. laid_over l c.args.numbers.now) (sym (areas-next areas hs i c.loop-i-test.true));
     }
@@ -52,26 +70,38 @@ pub returns-then-size-end-clause-fitting : goal.returns-then-size-end-clause-fit
 returns-then-size-end-clause-fitting c =
     let areas = c.args.areas.now in
     let hs = c.args.indexes.now in
-    let many = counted areas (slice_index_or c.args.indexes.now c.loop-i.i 0) c.areas_of_index-size.result c.areas_of_index-size.new.found c.areas_of_index-size.ensures.fewer c.areas_of_index-size.ensures.are ∙ length-areas areas (slice_index_or hs c.loop-i.i 0) in
+    let many =
+    counted areas (slice_index_or c.args.indexes.now c.loop-i.i 0) c.areas_of_index-size.result
+    c.areas_of_index-size.new.found c.areas_of_index-size.ensures.fewer c.areas_of_index-size.ensures.are
+    ∙ length-areas areas (slice_index_or hs c.loop-i.i 0) in
     c.loop-i.invariant.fits
-    ∙ all_fitting (λ k. for_value (λ x. Ok (length (areas_of areas x))) (cell_from k)) hs c.loop-i.i c.loop-i.end c.areas_of_index-size.result (length c.args.numbers.now) c.loop-i-test.true c.loop-i.invariant.end many
+    ∙ all_fitting (λ k. for_value (λ x. Ok (length (areas_of areas x))) (cell_from k)) hs c.loop-i.i c.loop-i.end
+    c.areas_of_index-size.result (length c.args.numbers.now) c.loop-i-test.true c.loop-i.invariant.end many
     (omega (arith, c.if-size-end.true, c.loop-i.invariant.within, c.are_few.ensures))
 
 pub returns-then-size-end-clause-starts : goal.returns-then-size-end-clause-starts
 returns-then-size-end-clause-starts c =
     let areas = c.args.areas.now in
     let hs = c.args.indexes.now in
-    let many = counted areas (slice_index_or c.args.indexes.now c.loop-i.i 0) c.areas_of_index-size.result c.areas_of_index-size.new.found c.areas_of_index-size.ensures.fewer c.areas_of_index-size.ensures.are ∙ length-areas areas (slice_index_or hs c.loop-i.i 0) in
-    let fits = stopped (λ k. for_value (λ x. Ok (length (areas_of areas x))) (cell_from k)) hs c.loop-i.i c.loop-i.end c.areas_of_index-size.result greatest_place c.loop-i-test.true c.loop-i.invariant.end c.loop-i.invariant.within many (omega (arith, c.if-size-end.true, c.loop-i.invariant.within)) in
+    let many =
+    counted areas (slice_index_or c.args.indexes.now c.loop-i.i 0) c.areas_of_index-size.result
+    c.areas_of_index-size.new.found c.areas_of_index-size.ensures.fewer c.areas_of_index-size.ensures.are
+    ∙ length-areas areas (slice_index_or hs c.loop-i.i 0) in
+    let fits =
+    stopped (λ k. for_value (λ x. Ok (length (areas_of areas x))) (cell_from k)) hs c.loop-i.i c.loop-i.end
+    c.areas_of_index-size.result greatest_place c.loop-i-test.true c.loop-i.invariant.end c.loop-i.invariant.within
+    many (omega (arith, c.if-size-end.true, c.loop-i.invariant.within)) in
     c.loop-i.invariant.put
-    ∙ ap (λ l. laid_over l c.args.starts.now) (sym (stopped-starts (λ k. for_value (λ x. Ok (length (areas_of areas x))) (cell_from k)) hs c.loop-i.i _ c.loop-i-test.true fits))
+    ∙ ap (λ l. laid_over l c.args.starts.now) (sym (stopped-starts
+    (λ k. for_value (λ x. Ok (length (areas_of areas x))) (cell_from k)) hs c.loop-i.i _ c.loop-i-test.true fits))
 
 pub returns-then-size-end-clause-numbers : goal.returns-then-size-end-clause-numbers
 returns-then-size-end-clause-numbers c =
     let areas = c.args.areas.now in
     let hs = c.args.indexes.now in
     let before = all_areas areas (take c.loop-i.i hs) in
-    c.put_numbers_from.ensures before c.args.numbers.now (length-all_areas areas (take c.loop-i.i hs) ∙ sym c.loop-i.invariant.end) c.loop-i.invariant.listed
+    c.put_numbers_from.ensures before c.args.numbers.now
+    (length-all_areas areas (take c.loop-i.i hs) ∙ sym c.loop-i.invariant.end) c.loop-i.invariant.listed
     ∙ ap (λ l. laid_over (before ++ l) c.args.numbers.now) c.areas_of_index-size.ensures.are
     ∙ areas-full areas hs c.args.numbers.now c.loop-i.i c.loop-i.end c.areas_of_index-size.result c.loop-i-test.true c.loop-i.invariant.end (counted areas (slice_index_or c.args.indexes.now c.loop-i.i 0) c.areas_of_index-size.result c.areas_of_index-size.new.found c.areas_of_index-size.ensures.fewer c.areas_of_index-size.ensures.are)
     (omega (arith, c.if-size-end.true, c.loop-i.invariant.within, c.are_few.ensures))
@@ -81,6 +111,9 @@ returns-clause-starts c =
     let areas = c.args.areas.now in
     let hs = c.args.indexes.now in
     let last : c.loop-i.i ≡ length hs = omega (arith, c.loop-i.auto.i-end, c.loop-i-test.false) in
-    let fits = ended (λ k. for_value (λ x. Ok (length (areas_of areas x))) (cell_from k)) hs c.loop-i.i c.loop-i.end greatest_place last c.loop-i.invariant.end c.loop-i.invariant.within in
+    let fits =
+    ended (λ k. for_value (λ x. Ok (length (areas_of areas x))) (cell_from k)) hs c.loop-i.i c.loop-i.end
+    greatest_place last c.loop-i.invariant.end c.loop-i.invariant.within in
     c.loop-i.invariant.put
-    ∙ ap (λ l. laid_over l c.args.starts.now) (sym (ended-starts (λ k. for_value (λ x. Ok (length (areas_of areas x))) (cell_from k)) hs c.loop-i.i _ last fits))
+    ∙ ap (λ l. laid_over l c.args.starts.now) (sym
+    (ended-starts (λ k. for_value (λ x. Ok (length (areas_of areas x))) (cell_from k)) hs c.loop-i.i _ last fits))

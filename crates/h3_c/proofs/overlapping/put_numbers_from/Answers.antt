@@ -19,9 +19,11 @@ returns-then-place-i c = λ before first long is.
     let same : length c.loop-i.out ≡ length c.args.out.now = c.loop-i.auto.out in
     let room : length first ≡ length c.args.out.now = sym (ap length is ∙ length-laid_over before first) in
     c.loop-i.invariant before first long is
-    ∙ after-full before c.args.numbers.now first c.args.place c.loop-i.i long (omega (arith, c.loop-i-test.true)) (omega (arith, room, same, c.if-place-i.true))
+    ∙ after-full before c.args.numbers.now first c.args.place c.loop-i.i long (omega (arith, c.loop-i-test.true))
+    (omega (arith, room, same, c.if-place-i.true))
 
 pub returns : goal.returns
 returns c = λ before first long is.
     c.loop-i.invariant before first long is
-    ∙ ap (λ l. laid_over (before ++ l) first) (take_all c.loop-i.i c.args.numbers.now (omega (arith, c.loop-i-test.false)))
+    ∙ ap (λ l. laid_over (before ++ l) first)
+    (take_all c.loop-i.i c.args.numbers.now (omega (arith, c.loop-i-test.false)))

@@ -15,8 +15,10 @@ split [] i r c room is = absurd (omega (arith, room))
 split (d ∷ cells) zero r c room is = ap (λ k. descendants k r ++ uncompacted cells r) (sym is)
 split (d ∷ cells) (suc i) r c room is =
     ap (λ l. descendants d r ++ l) (split cells i r c (omega (arith, room)) is)
-    ∙ sym (append_assoc (descendants d r) (uncompacted (take i cells) r ++ descendants c r) (uncompacted (drop (suc i) cells) r))
-    ∙ ap (λ l. l ++ uncompacted (drop (suc i) cells) r) (sym (append_assoc (descendants d r) (uncompacted (take i cells) r) (descendants c r)))
+    ∙ sym (append_assoc (descendants d r) (uncompacted (take i cells) r ++ descendants c r)
+    (uncompacted (drop (suc i) cells) r))
+    ∙ ap (λ l. l ++ uncompacted (drop (suc i) cells) r)
+    (sym (append_assoc (descendants d r) (uncompacted (take i cells) r) (descendants c r)))
 
 pub loop-i-init : goal.loop-i-init
 unfolding laid_over
@@ -34,7 +36,8 @@ returns-in-None-clause-fits c =
     ap length whole ∙ length-append (before ++ descendants k r) (uncompacted (drop (suc i) cells) r) ∙ ap (λ n. n + length (uncompacted (drop (suc i) cells) r)) (length-append before (descendants k r)) in
     let full = has_no_room (c.loop-i.place + length (descendants k r)) _ c.in-None.ensures.end in
     let same : length c.loop-i.out ≡ length c.args.out.now = c.loop-i.auto.out in
-    sym (is_more (length (uncompacted cells r)) (length c.args.out.now) (omega (arith, same, long, full, c.loop-i.invariant.place)))
+    sym (is_more (length (uncompacted cells r)) (length c.args.out.now)
+    (omega (arith, same, long, full, c.loop-i.invariant.place)))
 
 pub returns-in-None-clause-put : goal.returns-in-None-clause-put
 returns-in-None-clause-put c =

@@ -11,5 +11,7 @@ invariant-loop-i g l = record {
   whole : (l.missed == 0) ≡ (first_code (map (λ h. g.Q.ColumnFunction.outcome l.question h) (take l.i l.indexes)) == 0);
   end : l.end ≡ total (sizes_of (map (λ h. g.Q.ColumnFunction.outcome l.question h) (take l.i l.indexes)));
   within : l.end ≤ greatest_place;
-  put : l.starts ≡ laid_over (starts_from 0 (sizes_of (map (λ h. g.Q.ColumnFunction.outcome l.question h) (take l.i l.indexes)))) l.fn.starts;
+  put : l.starts
+      ≡ laid_over (starts_from 0
+      (sizes_of (map (λ h. g.Q.ColumnFunction.outcome l.question h) (take l.i l.indexes)))) l.fn.starts;
 }

@@ -14,17 +14,27 @@ use Rattle.h3_c.specs.Walks.{walk_code, walk_over}
 use Rattle.h3_c.proofs.walks.put_disk.Goals as goal
 
 answered : (link : Links) (cell : Address) (k read : ℤ) → read ≡ k → None ≡ disk_refusal cell read
-    → Ok (map without_ring (disk link cell (unsigned_abs read))) ≡ unless (disk_refusal cell k) (map without_ring (disk link cell (unsigned_abs k)))
+    → Ok (map without_ring (disk link cell (unsigned_abs read)))
+    ≡ unless (disk_refusal cell k) (map without_ring (disk link cell (unsigned_abs k)))
 answered link cell k read same none =
-    subst (λ (z : ℤ). Ok (map without_ring (disk link cell (unsigned_abs read))) ≡ unless (disk_refusal cell z) (map without_ring (disk link cell (unsigned_abs z)))) same
+    subst (λ (z : ℤ). Ok (map without_ring (disk link cell (unsigned_abs read)))
+    ≡ unless (disk_refusal cell z) (map without_ring (disk link cell (unsigned_abs z)))) same
     (ap (λ o. unless o (map without_ring (disk link cell (unsigned_abs read)))) none)
 
 pub returns-in-Ok-clause-code : goal.returns-in-Ok-clause-code
 returns-in-Ok-clause-code c =
-    let is = answered (link_of c.args.table.now) c.args.cell c.args.k (to_z w32 (of_z w32 c.args.k)) (to_z-of_z w32 c.args.k (search rules)) c.in-Ok.ensures.refused in
-    c.put_walk.ensures.code _ (YieldsList-from_first (λ x. x) disk_cells_left _ (ap (map without_ring) c.in-Ok.ensures.items)).runs ∙ ap (λ l. walk_code l (length c.args.out.now)) is
+    let is =
+    answered (link_of c.args.table.now) c.args.cell c.args.k (to_z w32 (of_z w32 c.args.k))
+    (to_z-of_z w32 c.args.k (search rules)) c.in-Ok.ensures.refused in
+    c.put_walk.ensures.code _
+    (YieldsList-from_first (λ x. x) disk_cells_left _ (ap (map without_ring) c.in-Ok.ensures.items)).runs
+    ∙ ap (λ l. walk_code l (length c.args.out.now)) is
 
 pub returns-in-Ok-clause-put : goal.returns-in-Ok-clause-put
 returns-in-Ok-clause-put c =
-    let is = answered (link_of c.args.table.now) c.args.cell c.args.k (to_z w32 (of_z w32 c.args.k)) (to_z-of_z w32 c.args.k (search rules)) c.in-Ok.ensures.refused in
-    c.put_walk.ensures.put _ (YieldsList-from_first (λ x. x) disk_cells_left _ (ap (map without_ring) c.in-Ok.ensures.items)).runs ∙ ap (λ l. walk_over l c.args.out.now) is
+    let is =
+    answered (link_of c.args.table.now) c.args.cell c.args.k (to_z w32 (of_z w32 c.args.k))
+    (to_z-of_z w32 c.args.k (search rules)) c.in-Ok.ensures.refused in
+    c.put_walk.ensures.put _
+    (YieldsList-from_first (λ x. x) disk_cells_left _ (ap (map without_ring) c.in-Ok.ensures.items)).runs
+    ∙ ap (λ l. walk_over l c.args.out.now) is

@@ -6,4 +6,6 @@ use Rattle.h3_c.proofs.walks.put_walk.Given as goal
 
 -- the cells that are written so far
 abbrev pub invariant-loop-item : goal.invariant-loop-item
-invariant-loop-item g l = (cells : List Address) × (l.yielded ≡ written cells) × (l.i ≡ length cells) × (length cells ≤ length l.initial.out) × (l.out ≡ laid_over (indexes cells) l.initial.out)
+invariant-loop-item g l =
+    (cells : List Address) × (l.yielded ≡ written cells) × (l.i ≡ length cells) × (length cells ≤ length l.initial.out)
+    × (l.out ≡ laid_over (indexes cells) l.initial.out)

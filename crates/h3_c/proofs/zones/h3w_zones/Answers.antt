@@ -9,4 +9,8 @@ put_zones-requires c =
 pub returns-clause-zones : goal.returns-clause-zones
 returns-clause-zones c = λ e.
     let same = subst (λ l. IsPermutation l c.put_zones.new.cells) c.deref_mut.ensures.value c.put_zones.ensures.same in
-    zones_over c.numbers_are_read.ensures c.args.cells.now c.args.zones.now c.put_zones.new.zones c.in-Ok.cells.items c.put_zones.new.cells c.in-Ok.ensures.read same (c.put_zones.ensures.in_order e) (omega (arith, c.if-zones-cells.false)) (c.put_zones.ensures.written e)
+    zones_over c.numbers_are_read.ensures c.args.cells.now c.args.zones.now c.put_zones.new.zones c.in-Ok.cells.items
+    c.put_zones.new.cells c.in-Ok.ensures.read same (c.put_zones.ensures.in_order e) (omega (
+      arith,
+      c.if-zones-cells.false,
+    )) (c.put_zones.ensures.written e)

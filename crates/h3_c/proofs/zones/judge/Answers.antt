@@ -12,7 +12,8 @@ pub loop-i-init : goal.loop-i-init
 unfolding cells_in
 loop-i-init c = λ e. search (rules, e)
 
-first : (c : After-from) → (first_code (judged c.args.indexes.now) ≡ 5) × (first_place (judged c.args.indexes.now) ≡ c.loop-i.i)
+first : (c : After-from)
+    → (first_code (judged c.args.indexes.now) ≡ 5) × (first_place (judged c.args.indexes.now) ≡ c.loop-i.i)
 first c =
     judged-error c.args.indexes.now c.loop-i.i c.loop-i-test.true c.loop-i.invariant (sym c.in-Err.ensures.read)
 
@@ -26,14 +27,17 @@ returns-in-Err-clause-place c = sym (first c).1
 pub loop-i-preserved : goal.loop-i-preserved
 loop-i-preserved c =
     let up : c.loop-i.i + 1 ≡ suc c.loop-i.i = omega arith in
-    subst (λ n. cells_in (take n c.args.indexes.now) ≢ None) (sym up) (some-snoc c.args.indexes.now c.loop-i.i c.in_default.field-0 c.loop-i-test.true c.loop-i.invariant (sym c.in_default.ensures.read))
+    subst (λ n. cells_in (take n c.args.indexes.now) ≢ None) (sym up)
+    (some-snoc c.args.indexes.now c.loop-i.i c.in_default.field-0 c.loop-i-test.true c.loop-i.invariant (sym
+    c.in_default.ensures.read))
 
 pub returns-in-Err-clause-invalid : goal.returns-in-Err-clause-invalid
 returns-in-Err-clause-invalid c = λ ne. c.from.ensures ∙ c.number.ensures ∙ ap error_number c.in-Err.ensures.refused.0
 
 all : (c : After-loop-i) → cells_in c.args.indexes.now ≢ None
 all c =
-    let whole : take c.loop-i.i c.args.indexes.now ≡ c.args.indexes.now = take_all c.loop-i.i c.args.indexes.now (omega (arith, c.loop-i-test.false)) in
+    let whole : take c.loop-i.i c.args.indexes.now ≡ c.args.indexes.now =
+    take_all c.loop-i.i c.args.indexes.now (omega (arith, c.loop-i-test.false)) in
     subst (λ l. cells_in l ≢ None) whole c.loop-i.invariant
 
 pub returns-clause-code : goal.returns-clause-code

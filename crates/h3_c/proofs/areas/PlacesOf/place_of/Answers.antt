@@ -11,13 +11,20 @@ returns-in-None c =
 pub returns-then-place-self : goal.returns-then-place-self
 returns-then-place-self c =
     let numbers = c.args.self.now.places.now in
-    let found = beside_zone c.coverages_decide_lists.ensures.ancestors c.zones-zones.result numbers c.args.cell c.cells-cells.ensures.zones c.in-Some.field-0 c.zone_near.new.place c.in-Some.ensures.place c.in-Some.ensures.found.1 c.in-Some.ensures.one in
+    let found =
+    beside_zone c.coverages_decide_lists.ensures.ancestors c.zones-zones.result numbers c.args.cell
+    c.cells-cells.ensures.zones c.in-Some.field-0 c.zone_near.new.place c.in-Some.ensures.place
+    c.in-Some.ensures.found.1 c.in-Some.ensures.one in
     sym (subst (λ l. beside l numbers c.args.cell ≡ get_or numbers c.zone_near.new.place (2 ^ 64 - 1)) c.zones-zones.ensures found
     ∙ get_or_past numbers c.zone_near.new.place (2 ^ 64 - 1) (omega (arith, c.if-place-self.true)))
 
 pub returns : goal.returns
 returns c =
     let numbers = c.args.self.now.places.now in
-    let found = beside_zone c.coverages_decide_lists.ensures.ancestors c.zones-zones.result numbers c.args.cell c.cells-cells.ensures.zones c.in-Some.field-0 c.zone_near.new.place c.in-Some.ensures.place c.in-Some.ensures.found.1 c.in-Some.ensures.one in
+    let found =
+    beside_zone c.coverages_decide_lists.ensures.ancestors c.zones-zones.result numbers c.args.cell
+    c.cells-cells.ensures.zones c.in-Some.field-0 c.zone_near.new.place c.in-Some.ensures.place
+    c.in-Some.ensures.found.1 c.in-Some.ensures.one in
     c.from.ensures ∙ any_default numbers c.zone_near.new.place 0 (2 ^ 64 - 1) (omega (arith, c.if-place-self.false))
-    ∙ sym (subst (λ l. beside l numbers c.args.cell ≡ get_or numbers c.zone_near.new.place (2 ^ 64 - 1)) c.zones-zones.ensures found)
+    ∙ sym (subst (λ l. beside l numbers c.args.cell
+    ≡ get_or numbers c.zone_near.new.place (2 ^ 64 - 1)) c.zones-zones.ensures found)
