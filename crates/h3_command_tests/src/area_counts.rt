@@ -96,8 +96,14 @@ fn options(alloc: Global, both: Both) -> Result<Tables, AllocError> {
     let none = String::from_str(alloc, "-")?;
     Ok(Tables {
         list,
+        sum: None,
+        by: None,
         file: None,
-        areas: Some(AreaOptions { table, none }),
+        areas: Some(AreaOptions {
+            table,
+            none,
+            overlapping: false,
+        }),
     })
 }
 

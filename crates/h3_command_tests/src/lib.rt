@@ -28,6 +28,8 @@ mod readers;
 #[cfg(test)]
 mod runs;
 #[cfg(test)]
+mod second_fields;
+#[cfg(test)]
 mod table_files;
 #[cfg(test)]
 mod tables_of_cells;

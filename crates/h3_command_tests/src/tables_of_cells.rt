@@ -56,6 +56,8 @@ fn over_table(
 ) -> Result<Outcome, AllocError> {
     let tables = Tables {
         list: None,
+        sum: None,
+        by: None,
         file: Some(options(alloc, columns)?),
         areas: None,
     };
@@ -405,6 +407,8 @@ static BOTH: [FileRow; 3] = [
 fn answers_over_both(alloc: Global, row: &FileRow) -> Result<bool, AllocError> {
     let tables = Tables {
         list: Some(options(alloc, Columns::Named("cell"))?),
+        sum: None,
+        by: None,
         file: Some(options(alloc, Columns::Second)?),
         areas: None,
     };

@@ -96,10 +96,15 @@ fn areas(alloc: Global, fields: Fields, absent: Absent) -> Result<AreaOptions, A
         Absent::Nothing => Ok(AreaOptions {
             table,
             none: String::new(alloc),
+            overlapping: false,
         }),
         Absent::Dash => {
             let none = String::from_str(alloc, "-")?;
-            Ok(AreaOptions { table, none })
+            Ok(AreaOptions {
+                table,
+                none,
+                overlapping: false,
+            })
         }
     }
 }
@@ -130,6 +135,8 @@ fn run(alloc: Global, case: &Case, most: usize, failing: Failing) -> Result<Outc
     let (fields, absent, lists, row) = case;
     let tables = Tables {
         list: list(alloc, *lists)?,
+        sum: None,
+        by: None,
         file: None,
         areas: Some(areas(alloc, *fields, *absent)?),
     };

@@ -80,17 +80,18 @@ fn read(
         return Err(RunError::Fault(Fault::Memory));
     };
     let mut source = FaultySource::new(list.as_bytes(), most, Faults::From(calls));
-    read_areas(alloc, &table, &mut source)
+    read_areas(alloc, &table.rows, &table.name, &mut source)
 }
 
-/// The columns of a table, its bytes, the name in its header, the names of its areas, and its cells with the
-/// numbers of these.
+/// The columns of a table, its bytes, the name in its header, the names of its areas, its cells with the
+/// numbers of these, and the number of each area's first row.
 type Table = (
     Columns,
     &'static str,
     &'static str,
     &'static [&'static str],
     &'static [(u64, u32)],
+    &'static [u64],
 );
 
 /// Whether areas have these names, and no other.
@@ -127,13 +128,14 @@ static PIECES: [usize; 3] = [1, 7, 65536];
 
 /// Whether a table is read so, in pieces of each of these sizes.
 fn is_read(alloc: Global, table: &Table) -> bool {
-    let (columns, list, title, names, cells) = *table;
+    let (columns, list, title, names, cells, rows) = *table;
     for most in &PIECES {
         match read(alloc, columns, list, *most, 1000) {
             Ok(areas) => {
                 if !has_title(&areas, title)
                     || !have_names(&areas, names)
                     || !have_cells(&areas, cells)
+                    || areas.rows.as_slice() != rows
                 {
                     return false;
                 }
@@ -156,6 +158,7 @@ static TABLES: [Table; 10] = [
         "zone",
         &["north", "\"south, old\""],
         &[(P, 0), (Q, 1), (P, 0)],
+        &[2, 3],
     ),
     // two spellings of a name, and three areas
     (
@@ -164,6 +167,7 @@ static TABLES: [Table; 10] = [
         "",
         &["\"a\"", "b", "c"],
         &[(P, 0), (Q, 0), (Q, 1), (P, 2), (P, 1)],
+        &[1, 3, 4],
     ),
     // blanks around names, and at the end of a row
     (
@@ -172,6 +176,7 @@ static TABLES: [Table; 10] = [
         "",
         &["a b", "\" a b\""],
         &[(P, 0), (Q, 1)],
+        &[1, 2],
     ),
     // rows without a cell say nothing
     (
@@ -180,6 +185,7 @@ static TABLES: [Table; 10] = [
         "",
         &["y"],
         &[(P, 0)],
+        &[4],
     ),
     // a byte order mark is in no name
     (
@@ -188,6 +194,7 @@ static TABLES: [Table; 10] = [
         "",
         &["a"],
         &[(P, 0), (Q, 0)],
+        &[1],
     ),
     (
         Columns::Headed,
@@ -195,6 +202,7 @@ static TABLES: [Table; 10] = [
         "\"zone\"",
         &["a"],
         &[(P, 0)],
+        &[3],
     ),
     // alone in the first row it leaves that empty
     (
@@ -203,6 +211,7 @@ static TABLES: [Table; 10] = [
         "zone",
         &["a"],
         &[(P, 0)],
+        &[3],
     ),
     (
         Columns::NameHeaded,
@@ -210,6 +219,7 @@ static TABLES: [Table; 10] = [
         "zone",
         &["b"],
         &[(P, 0)],
+        &[3],
     ),
     // a line feed in a name, and a name of no byte
     (
@@ -218,8 +228,9 @@ static TABLES: [Table; 10] = [
         "",
         &["\"a\nb\"", ""],
         &[(P, 0), (Q, 1)],
+        &[1, 3],
     ),
-    (Columns::Plain, "", "", &[], &[]),
+    (Columns::Plain, "", "", &[], &[], &[]),
 ];
 
 #[test]

@@ -5,7 +5,7 @@ use h3_index::H3Error;
 use h3_lines::{AnswerError, CellFile, ColumnError, Fault, RowError, RowFault, RunError};
 
 /// Refusals of each variant.
-static REFUSALS: [RunError; 38] = [
+static REFUSALS: [RunError; 40] = [
     RunError::Error(AnswerError::Call(H3Error::Failed)),
     RunError::Error(AnswerError::Call(H3Error::MemoryAlloc)),
     RunError::Error(AnswerError::At(1, H3Error::Failed)),
@@ -17,6 +17,8 @@ static REFUSALS: [RunError; 38] = [
     RunError::Error(AnswerError::AtRow(2, RowError::Bad(RowFault::TooLong))),
     RunError::Error(AnswerError::AtRow(2, RowError::Bad(RowFault::FieldCount(1, 2)))),
     RunError::Error(AnswerError::AtRow(2, RowError::Bad(RowFault::FieldCount(3, 2)))),
+    RunError::Error(AnswerError::AtRow(1, RowError::NotANumber)),
+    RunError::Error(AnswerError::AtRow(2, RowError::NotANumber)),
     RunError::Error(AnswerError::AtRowAndMore(1, RowError::Call(H3Error::Failed), 0)),
     RunError::Error(AnswerError::AtRowAndMore(1, RowError::Call(H3Error::Failed), 1)),
     RunError::Error(AnswerError::AtRowAndMore(2, RowError::Call(H3Error::Failed), 0)),

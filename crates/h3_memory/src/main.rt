@@ -56,6 +56,15 @@ const APART: &str = "85283463fffffff\n8009fffffffffff\n";
 /// The same as a table, in whose second field the cells are.
 const ROWS: &str = "a,85283463fffffff\n\"b, c\",8009fffffffffff\n";
 
+/// A table of zones that overlap: a child of 8428347ffffffff, and that cell.
+const NESTED: &str = "a,85283463fffffff\nb,8428347ffffffff\n";
+
+/// Rows of two cells of that table, with numbers in the first field.
+const NUMBERED: &str = "1.5,85283463fffffff\n-2,8428347ffffffff\n";
+
+/// Rows of three cells, with two values in the first field.
+const VALUED: &str = "x,85283463fffffff\ny,8009fffffffffff\nx,85283467fffffff\n";
+
 /// How the rows of that table are read.
 fn row_options() -> RowOptions {
     RowOptions {
@@ -71,13 +80,14 @@ fn row_options() -> RowOptions {
 }
 
 /// How the areas of that table are read, whose names are in its first field.
-fn area_options(alloc: Global) -> AreaOptions {
+fn area_options(alloc: Global, overlapping: bool) -> AreaOptions {
     AreaOptions {
         table: TableOptions {
             rows: row_options(),
             name: CellField::Number(1),
         },
         none: String::new(alloc),
+        overlapping,
     }
 }
 
@@ -115,6 +125,60 @@ fn print_run<W: Write>(
     print_bytes("err ", err.into_inner().as_slice(), to)
 }
 
+/// How tables are read of which the file of zones has rows with names, or with cells alone, if `areas` is
+/// `None`.
+fn file_tables(areas: Option<AreaOptions>) -> Tables {
+    Tables {
+        list: None,
+        sum: None,
+        by: None,
+        file: match &areas {
+            None => Some(row_options()),
+            Some(_) => None,
+        },
+        areas,
+    }
+}
+
+/// How a list of rows is read, of which a second field has numbers, beside zones with names; or values, if
+/// `areas` is `None`.
+fn list_tables(areas: Option<AreaOptions>) -> Tables {
+    let second = Some(CellField::Number(1));
+    let (sum, by) = match &areas {
+        None => (None, second),
+        Some(_) => (second, None),
+    };
+    Tables {
+        list: Some(row_options()),
+        sum,
+        by,
+        file: None,
+        areas,
+    }
+}
+
+/// Runs commands over tables, and prints what they print.
+fn print_tables<W: Write>(alloc: Global, to: &mut W) -> io::Result<()> {
+    let zones = Command::CellsToZones;
+    let counts = Command::CountCellsInZones;
+    let reads = (OVERLAPPING, ROWS);
+    print_run(alloc, &zones, &file_tables(None), reads, to)?;
+    let named = file_tables(Some(area_options(alloc, false)));
+    print_run(alloc, &zones, &named, reads, to)?;
+    print_run(alloc, &counts, &named, reads, to)?;
+    let nested = file_tables(Some(area_options(alloc, true)));
+    print_run(alloc, &zones, &nested, (OVERLAPPING, NESTED), to)?;
+    let summed = list_tables(Some(area_options(alloc, false)));
+    print_run(alloc, &counts, &summed, (NUMBERED, ROWS), to)?;
+    print_run(
+        alloc,
+        &Command::UniteCells,
+        &list_tables(None),
+        (VALUED, ""),
+        to,
+    )
+}
+
 fn main(rt: HostRuntime) -> io::Result<()> {
     let cell = Some(0x85283473fffffff);
     let to = Some(0x85283477fffffff);
@@ -141,26 +205,13 @@ fn main(rt: HostRuntime) -> io::Result<()> {
     let mut stdout = rt.stdout();
     let bare = Tables {
         list: None,
+        sum: None,
+        by: None,
         file: None,
         areas: None,
     };
     for (command, reads) in &runs {
         print_run(rt.alloc(), command, &bare, *reads, &mut stdout)?;
     }
-    let tables = Tables {
-        list: None,
-        file: Some(row_options()),
-        areas: None,
-    };
-    let reads = (OVERLAPPING, ROWS);
-    let zones = Command::CellsToZones;
-    print_run(rt.alloc(), &zones, &tables, reads, &mut stdout)?;
-    let named = Tables {
-        list: None,
-        file: None,
-        areas: Some(area_options(rt.alloc())),
-    };
-    print_run(rt.alloc(), &zones, &named, reads, &mut stdout)?;
-    let counts = Command::CountCellsInZones;
-    print_run(rt.alloc(), &counts, &named, reads, &mut stdout)
+    print_tables(rt.alloc(), &mut stdout)
 }

@@ -230,7 +230,7 @@ fn help_groups_the_commands(rt: HostRuntime) {
 }
 
 /// Lines that ask for help of a command over a region or zones, and what it says of the file.
-static FILE_HELP: [(&str, &str); 22] = [
+static FILE_HELP: [(&str, &str); 25] = [
     (
         "h3 intersectCells --help",
         "\n  region: line 2: error 5: E_CELL_INVALID  its first faulty line, status 1\n",
@@ -288,7 +288,18 @@ static FILE_HELP: [(&str, &str); 22] = [
         "h3 cellsToZones --help",
         "\nWith --zone-name or --zone-name-field the answer is the zone's name, and for a\n\
         cell in no zone the text of --none (default: nothing). The cells of one name\n\
-        may overlap.\n",
+        may overlap. With --overlapping, zones may too: a cell has an answer for each\n\
+        of its zones, coarse ones first, and its row is printed once for each.\n",
+    ),
+    ("h3 cellsToZones --help", " --overlapping "),
+    (
+        "h3 countCellsInZones --help",
+        "\nWith names and --sum or --sum-field each row ends with the exact sum of that\n\
+        column over the cells that it counts; a blank field is 0:\n",
+    ),
+    (
+        "h3 countCellsInZones --help",
+        "\n  line 2: sum: not a number               its first bad number, status 1\n",
     ),
     (
         "h3 cellsToZones --help",
@@ -430,7 +441,7 @@ static LIST_USAGES: [(&str, &str); 27] = [
 ];
 
 /// Lines that ask for help of a command that reads rows, and what it says of them.
-static ROWS_HELP: [(&str, &str); 31] = [
+static ROWS_HELP: [(&str, &str); 37] = [
     ("h3 cellsToParents --help", "\nRows:\n"),
     ("h3 cellsToParents --help", "--field <number>"),
     ("h3 cellsToParents --help", "--column <column>"),
@@ -481,6 +492,32 @@ static ROWS_HELP: [(&str, &str); 31] = [
     ("h3 gridDisksDistancesUnsafe --help", "--errors "),
     ("h3 uniteCells --help", "--ragged "),
     ("h3 countCellsInZones --help", "--ragged "),
+    (
+        "h3 uniteCells --help",
+        "\nWith --by or --by-field there is a list for each value of that column, in the\n\
+        order of their first rows: each line is a row of the value and a cell.\n",
+    ),
+    (
+        "h3 compactCells --help",
+        "\nError 10 then has the line of the first row with its value.\n",
+    ),
+    (
+        "h3 uncompactCells --help",
+        "\nError 4 or 12 then has the line of the first row with its value.\n",
+    ),
+    (
+        "h3 compactCells --help",
+        "\nOne list for each value of a column:\n\
+        h3 compactCells --csv --column cell --by driver < trips.csv\n",
+    ),
+    (
+        "h3 uncompactCells --help",
+        "\nh3 uncompactCells -r 6 --csv --column cell --by driver < trips.csv\n",
+    ),
+    (
+        "h3 uniteCells --help",
+        "\nh3 uniteCells --csv --column cell --by driver < trips.csv\n",
+    ),
 ];
 
 #[test]

@@ -309,7 +309,7 @@ fn help_says_what_each_command_answers(rt: HostRuntime) {
 }
 
 /// Commands, the forms of their options, and what each is.
-static OPTION_TEXTS: [(&str, &str, &str); 29] = [
+static OPTION_TEXTS: [(&str, &str, &str); 35] = [
     (
         "h3 getResolution -h",
         "-c, --cell <cell>",
@@ -404,6 +404,36 @@ static OPTION_TEXTS: [(&str, &str, &str); 29] = [
         "h3 cellsToZones -h",
         "--none <text>",
         "With names: text for a cell in no zone",
+    ),
+    (
+        "h3 cellsToZones -h",
+        "--overlapping",
+        "With names: zones may overlap",
+    ),
+    (
+        "h3 countCellsInZones -h",
+        "--sum <sum>",
+        "With names and a header: column to add up",
+    ),
+    (
+        "h3 countCellsInZones -h",
+        "--sum-field <sum-field>",
+        "With names and --field: field to add up",
+    ),
+    (
+        "h3 uniteCells -h",
+        "--by <by>",
+        "With a header: split by this column",
+    ),
+    (
+        "h3 uncompactCells -h",
+        "--by <by>",
+        "With a header: split by this column",
+    ),
+    (
+        "h3 compactCells -h",
+        "--by-field <by-field>",
+        "With --field: split by this field",
     ),
     (
         "h3 gridDiskUnsafe -h",

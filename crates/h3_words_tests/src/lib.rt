@@ -12,8 +12,18 @@ mod help;
 #[cfg(test)]
 mod help_texts;
 #[cfg(test)]
+mod refused_rows;
+#[cfg(test)]
 mod refused_words;
 #[cfg(test)]
 mod rows_words;
+#[cfg(test)]
+mod said_of_rows;
+#[cfg(test)]
+mod second_field_words;
+#[cfg(test)]
+mod table_words;
+#[cfg(test)]
+mod value_words;
 #[cfg(test)]
 mod words;
