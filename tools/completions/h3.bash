@@ -19,11 +19,12 @@ _h3_options() {
 }
 _h3_rows() {
     case $1 in
-        compactCells | uncompactCells | uncompactCellsSize | uniteCells) echo --field --column --header --separator --csv --ragged ;;
+        compactCells | uncompactCells | uniteCells) echo --by --by-field --field --column --header --separator --csv --ragged ;;
+        uncompactCellsSize) echo --field --column --header --separator --csv --ragged ;;
         intersectCells | subtractCells) echo --region-column --region-field --field --column --header --separator --csv --ragged ;;
         areCoveredCells) echo --region-column --region-field --field --column --header --separator --csv --as --keep-going --errors --ragged ;;
-        cellsToZones) echo --zone-column --zone-field --zone-name --zone-name-field --none --field --column --header --separator --csv --as --keep-going --errors --ragged ;;
-        countCellsInZones) echo --zone-column --zone-field --zone-name --zone-name-field --none --field --column --header --separator --csv --ragged ;;
+        cellsToZones) echo --zone-column --zone-field --zone-name --zone-name-field --none --overlapping --field --column --header --separator --csv --as --keep-going --errors --ragged ;;
+        countCellsInZones) echo --zone-column --zone-field --zone-name --zone-name-field --none --sum --sum-field --field --column --header --separator --csv --ragged ;;
         areValidCells | areValidDirectedEdges | getResolutions | getBaseCellNumbers | arePentagons | areResClassIII | cellsToParents | cellsToCenterChildren | cellsToLastChildren | cellsToChildren | cellsToChildrenSizes | cellsToChildPositions | gridDisksUnsafe | gridDisksDistancesUnsafe | gridRingsUnsafe | getDirectedEdgeOrigins | getDirectedEdgeDestinations | originsToDirectedEdges) echo --field --column --header --separator --csv --as --keep-going --errors --ragged ;;
     esac
 }
@@ -58,7 +59,7 @@ _h3() {
             return
             ;;
         -c | --cell | -k | --to | --position | --edge | --field | --column | --separator | --as) return ;;
-        --region-* | --zone-* | --none) return ;;
+        --region-* | --zone-* | --none | --sum | --sum-field | --by | --by-field) return ;;
     esac
     options=$(_h3_options "$command")
     # (a command that requires no options awaits nothing)
