@@ -1,5 +1,5 @@
 -- The pass over two regions that writes the cells of each that the other covers.
-use Rattle.std.proofs.Common.{ℕ, ◌≡◌, ◌+◌, ◌-◌, ◌^◌, ◌<◌, ◌≤◌, ◌⊎◌, List, length, take, set, refl, Contains, arith, ◌∙◌, sym, ap, subst, inl, inr, get_or}
+use Rattle.std.proofs.Common.{ℕ, zero, suc, ◌≡◌, ◌+◌, ◌-◌, ◌^◌, ◌<◌, ◌≤◌, ◌⊎◌, List, length, take, set, refl, Contains, arith, ◌∙◌, sym, ap, subst, inl, inr, get_or}
 use Rattle.std.proofs.Math.Nat.{one-le-pow}
 use Rattle.std.proofs.Math.ListN.{length-set}
 use Rattle.std.proofs.lemmas.Bool.{cases_lt}
@@ -9,31 +9,11 @@ use Rattle.h3_index.specs.Descendants.{IsAncestor}
 use Rattle.h3_tree.specs.Laws.{CellsFormTrees}
 use Rattle.h3_tree.specs.PostOrder.{post_order_key as key, CellsFormIntervals}
 use Rattle.h3_regions.specs.Unions.{HasAncestor}
-use Rattle.h3_regions.specs.Intersection.{HoldsShared, IsShared}
+use Rattle.h3_regions.specs.Difference.{lowest_key}
+use Rattle.h3_regions.specs.Intersection.{HoldsShared, IsFrom, IsSeen, IsShared}
 use Rattle.h3_regions.specs.Region.{IsRegion}
 use Rattle.h3_regions.proofs.IntervalLaws.{before, inside, within}
 use Rattle.h3_regions.proofs.ListLaws.{any_default, contains_at, contains_front, front_at, member_at}
-
--- one of the first n cells of a list, which another list covers
-pub record IsFrom (a b : List Address) (n : ℕ) (x : Address) : Type 0 where
-  pub place : ℕ
-  pub early : place < n
-  pub room : place < length a
-  pub is : get_or a place x ≡ x
-  pub covered : HasAncestor b x
-
--- the first i of one list and the first j of the other are seen, and w cells are written
-pub record IsSeen (a b slots : List Address) (i j w : ℕ) : Type 0 where
-  pub in_a : i ≤ length a
-  pub in_b : j ≤ length b
-  pub behind : w ≤ i + j
-  pub room : length a + length b ≤ length slots
-  pub before_b : (p q : ℕ) (d : Address) → p < i → j ≤ q → q < length b → key (get_or a p d) ≤ key (get_or b q d)
-  pub before_a : (q p : ℕ) (d : Address) → q < j → i ≤ p → p < length a → key (get_or b q d) ≤ key (get_or a p d)
-  pub chosen : (k : ℕ) (d : Address) → k < w → IsFrom a b i (get_or slots k d) ⊎ IsFrom b a j (get_or slots k d)
-  pub all_a : (p : ℕ) (d : Address) → p < i → HasAncestor b (get_or a p d) → (k : ℕ) × (k < w) × (get_or slots k d ≡ get_or a p d)
-  pub all_b : (q : ℕ) (d : Address) → q < j → HasAncestor a (get_or b q d) → (k : ℕ) × (k < w) × (get_or slots k d ≡ get_or b q d)
-  pub rises : (k l : ℕ) (d : Address) → k < l → l < w → key (get_or slots k d) < key (get_or slots l d)
 
 -- the two lists change places
 pub turned : (a b slots : List Address) (i j w : ℕ) → IsSeen a b slots i j w → IsSeen b a slots j i w
@@ -60,21 +40,31 @@ module _ (tree : CellsFormTrees) (intervals : CellsFormIntervals) where
   pub one_cell : (a x : Address) → IsCell a → IsCell x → IsAncestor a x → key a ≤ key x → a ≡ x
   one_cell a x ha hx above le =
       let some : 1 ≤ 8 ^ (15 - resolution x) = one-le-pow (15 - resolution x) 8 (omega arith) in
-      let back : IsAncestor x a = inside intervals x a hx ha le (let w = within intervals a x ha hx above in omega (arith, w.0, le, some)) in
+      let back : IsAncestor x a = inside intervals x a hx ha le (let w =
+      within intervals a x ha hx above in omega (arith, w.0, le, some)) in
       sym (tree.same a x above (tree.no_finer x a back))
 
   module _ (a b slots : List Address) (ra : IsRegion a) (rb : IsRegion b) (i j w : ℕ) (s : IsSeen a b slots i j w) where
     -- a cell of the one list that is still to come and stands below one of the other that was seen is that one, and is
     -- written
-    pub passed : (p q : ℕ) (d : Address) → i ≤ p → p < length a → q < j → IsAncestor (get_or b q d) (get_or a p d) → (k : ℕ) × (k < w) × (get_or slots k d ≡ get_or a p d)
+    pub passed : (p q : ℕ) (d : Address) → i ≤ p → p < length a → q < j → IsAncestor (get_or b q d) (get_or a p d)
+        → (k : ℕ) × (k < w) × (get_or slots k d ≡ get_or a p d)
     passed p q d le lt lq above =
         let room : q < length b = omega (arith, lq, s.in_b) in
-        let same = one_cell (get_or b q d) (get_or a p d) (rb.valid q d room) (ra.valid p d lt) above (s.before_a q p d lq le lt) in
-        let own : HasAncestor a (get_or b q d) = record { by = get_or a p d; member = contains_at a p d (get_or a p d) lt refl; above = subst (IsAncestor (get_or a p d)) (sym same) (tree.own (get_or a p d)) } in
+        let same = one_cell (get_or b q d) (get_or a p d) (rb.valid q d room) (ra.valid p d lt) above
+        (s.before_a q p d lq le lt) in
+        let own : HasAncestor a (get_or b q d) =
+        record {
+          by = get_or a p d;
+          member = contains_at a p d (get_or a p d) lt refl;
+          above =
+              subst (IsAncestor (get_or a p d)) (sym same) (tree.own (get_or a p d));
+        } in
         let k = s.all_b q d lq own in
         (k.0, k.1, k.2 ∙ same)
 
-    module _ (x y : Address) (li : i < length a) (lj : j < length b) (x_is : (d : Address) → get_or a i d ≡ x) (y_is : (d : Address) → get_or b j d ≡ y) (le : key x ≤ key y) where
+    module _ (x y : Address) (li : i < length a) (lj : j < length b) (x_is : (d : Address) → get_or a i d ≡ x)
+        (y_is : (d : Address) → get_or b j d ≡ y) (le : key x ≤ key y) where
       x_valid : IsCell x
       x_valid = subst IsCell (x_is x) (ra.valid i x li)
 
@@ -104,15 +94,20 @@ module _ (tree : CellsFormTrees) (intervals : CellsFormIntervals) where
             let at : get_or b h.member.0 d ≡ h.by = member_at b h.by d h.member in
             elim (cases_lt h.member.0 j) [
               | inl early ↦
-                  let k = passed i h.member.0 d (omega arith) li early (subst (λ v. IsAncestor v (get_or a i d)) (sym at) (subst (IsAncestor h.by) (sym (x_is d)) h.above)) in
+                  let k = passed i h.member.0 d (omega arith) li early
+                  (subst (λ v. IsAncestor v (get_or a i d)) (sym at)
+                  (subst (IsAncestor h.by) (sym (x_is d)) h.above)) in
                   (k.0, k.1, k.2 ∙ x_is d)
               | inr not ↦ elim (cases_lt j h.member.0) [
                 | inl late ↦
                     let by_valid : IsCell h.by = subst IsCell at (rb.valid h.member.0 d lq) in
                     let inside_it = within intervals h.by x by_valid x_valid h.above in
                     let up : key y < key h.by = rw (y_is d, at) at (rb.in_order j h.member.0 d late lq) in
-                    let over : IsAncestor h.by y = inside intervals h.by y by_valid y_valid (omega (arith, up)) (omega (arith, inside_it.1, le)) in
-                    absurd (rb.apart j h.member.0 d late lq (inr (subst (λ v. IsAncestor v (get_or b j d)) (sym at) (subst (IsAncestor h.by) (sym (y_is d)) over))))
+                    let over : IsAncestor h.by y = inside intervals h.by y by_valid y_valid (omega (arith, up))
+                    (omega (arith, inside_it.1, le)) in
+                    absurd (rb.apart j h.member.0 d late lq
+                    (inr (subst (λ v. IsAncestor v (get_or b j d)) (sym at)
+                    (subst (IsAncestor h.by) (sym (y_is d)) over))))
                 | inr also ↦
                     let e : h.member.0 ≡ j = omega (arith, not, also) in
                     let same : h.by ≡ y = sym at ∙ ap (λ n. get_or b n d) e ∙ y_is d in
@@ -165,13 +160,18 @@ module _ (tree : CellsFormTrees) (intervals : CellsFormIntervals) where
             elim (s.chosen k d l) [
               | inl f ↦
                   let v = get_or slots k d in
-                  let at : get_or a f.place d ≡ get_or slots k d = any_default a f.place d (get_or slots k d) f.room ∙ f.is in
+                  let at : get_or a f.place d ≡ get_or slots k d =
+                  any_default a f.place d (get_or slots k d) f.room ∙ f.is in
                   rw (at, x_is d) at (ra.in_order f.place i d f.early li)
               | inr f ↦
-                  let at : get_or b f.place d ≡ get_or slots k d = any_default b f.place d (get_or slots k d) f.room ∙ f.is in
+                  let at : get_or b f.place d ≡ get_or slots k d =
+                  any_default b f.place d (get_or slots k d) f.room ∙ f.is in
                   let up : key (get_or slots k d) < key y = rw (at, y_is d) at (rb.in_order f.place j d f.early lj) in
                   let v_valid : IsCell (get_or slots k d) = subst IsCell at (rb.valid f.place d f.room) in
-                  let far = before intervals y (get_or slots k d) y_valid v_valid (omega (arith, up)) (λ under. rb.apart f.place j d f.early lj (inr (subst (λ u. IsAncestor (get_or b j d) u) (sym at) (subst (λ u. IsAncestor u (get_or slots k d)) (sym (y_is d)) under)))) in
+                  let far = before intervals y (get_or slots k d) y_valid v_valid (omega (arith, up))
+                  (λ under. rb.apart f.place j d f.early lj
+                  (inr (subst (λ u. IsAncestor (get_or b j d) u) (sym at)
+                  (subst (λ u. IsAncestor u (get_or slots k d)) (sym (y_is d)) under)))) in
                   omega (arith, far, in_y.1)
             ]
 
@@ -186,15 +186,18 @@ module _ (tree : CellsFormTrees) (intervals : CellsFormIntervals) where
               before_a = λ q p d l more lt. s.before_a q p d l (omega (arith, more)) lt;
               chosen = λ k d l. elim (cases_lt k w) [
                 | inl less ↦
-                    subst (λ v. IsFrom a b (i + 1) v ⊎ IsFrom b a j v) (sym (first k d less)) (elim (s.chosen k d less) [ inl f ↦ inl (more_from a b i _ f) | inr f ↦ inr f ])
+                    subst (λ v. IsFrom a b (i + 1) v ⊎ IsFrom b a j v) (sym (first k d less))
+                    (elim (s.chosen k d less) [ inl f ↦ inl (more_from a b i _ f) | inr f ↦ inr f ])
                 | inr not ↦
                     let e : k ≡ w = omega (arith, l, not) in
                     let is : get_or (set slots w x) k d ≡ x = ap (λ n. get_or (set slots w x) n d) e ∙ last d in
-                    inl (subst (IsFrom a b (i + 1)) (sym is) (record { place = i; early = omega arith; room = li; is = x_is x; covered = covered }))
+                    inl (subst (IsFrom a b (i + 1)) (sym is)
+                    (record { place = i; early = omega arith; room = li; is = x_is x; covered = covered }))
               ];
               all_a = λ p d l h. elim (cases_lt p i) [
                 | inl less ↦ let k = s.all_a p d less h in (k.0, omega (arith, k.1), first k.0 d k.1 ∙ k.2)
-                | inr not ↦ let e : i ≡ p = omega (arith, l, not) in (w, omega arith, last d ∙ sym (x_is d) ∙ ap (λ n. get_or a n d) e)
+                | inr not ↦ let e : i ≡ p = omega (arith, l, not) in
+                    (w, omega arith, last d ∙ sym (x_is d) ∙ ap (λ n. get_or a n d) e)
               ];
               all_b = λ q d l h. (let k = s.all_b q d l h in (k.0, omega (arith, k.1), first k.0 d k.1 ∙ k.2));
               rises = λ k l d lt lw. (let lk : k < w = omega (arith, lt, lw) in elim (cases_lt l w) [
@@ -209,20 +212,58 @@ module _ (tree : CellsFormTrees) (intervals : CellsFormIntervals) where
     written_in k d x l e = contains_front slots w k d x l (omega (arith, l, s.behind, s.room, s.in_a, s.in_b)) e
 
     -- a covered cell of the one list is written
-    pub all_first : (length a ≤ i) ⊎ (length b ≤ j) → (x : Address) → Contains a x → HasAncestor b x → Contains (take w slots) x
+    pub all_first : (length a ≤ i) ⊎ (length b ≤ j) → (x : Address) → Contains a x → HasAncestor b x
+        → Contains (take w slots) x
     all_first or x m h =
         elim (cases_lt m.0 i) [
           | inl early ↦
               let k = s.all_a m.0 x early (subst (HasAncestor b) (sym m.2) h) in
               written_in k.0 x x k.1 (k.2 ∙ m.2)
           | inr late ↦
-              let done : length b ≤ j = elim or [ inl over ↦ absurd (omega (arith, over, late, m.1)) | inr over ↦ over ] in
+              let done : length b ≤ j = elim or [ inl over ↦ absurd (omega (arith, over, late, m.1)) | inr over ↦ over ]
+              in
               let at : get_or b h.member.0 x ≡ h.by = member_at b h.by x h.member in
-              let k = passed m.0 h.member.0 x late m.1 (omega (arith, done, h.member.1)) (subst (λ v. IsAncestor v (get_or a m.0 x)) (sym at) (subst (IsAncestor h.by) (sym m.2) h.above)) in
+              let k = passed m.0 h.member.0 x late m.1 (omega (arith, done, h.member.1))
+              (subst (λ v. IsAncestor v (get_or a m.0 x)) (sym at) (subst (IsAncestor h.by) (sym m.2) h.above)) in
               written_in k.0 x x k.1 (k.2 ∙ m.2)
         ]
 
-  pub met : (a b slots : List Address) → IsRegion a → IsRegion b → (i j w : ℕ) → IsSeen a b slots i j w → (length a ≤ i) ⊎ (length b ≤ j) → HoldsShared a b (take w slots)
+  -- cells of the one list that come before all that may be below the other's next cell are passed over
+  pub skipped : (a b slots : List Address) → IsRegion a → IsRegion b → (n i j w : ℕ) (y : Address) → j < length b
+      → ((d : Address) → get_or b j d ≡ y) → i + n ≤ length a
+      → ((k : ℕ) (d : Address) → i ≤ k → k < i + n → key (get_or a k d) < lowest_key y) → IsSeen a b slots i j w
+      → IsSeen a b slots (i + n) j w
+  skipped a b slots ra rb zero i j w y lj y_is le far s =
+      let same : i ≡ i + zero = omega arith in
+      subst (λ m. IsSeen a b slots m j w) same s
+  skipped a b slots ra rb (suc n) i j w y lj y_is le far s =
+      let same : (i + 1) + n ≡ i + suc n = omega arith in
+      let li : i < length a = omega (arith, le) in
+      let x = get_or a i y in
+      let x_is : (d : Address) → get_or a i d ≡ x = λ d. any_default a i d y li in
+      let hx : IsCell x = ra.valid i y li in
+      let hy : IsCell y = subst IsCell (y_is y) (rb.valid j y lj) in
+      let some : 1 ≤ 8 ^ (15 - resolution y) = one-le-pow (15 - resolution y) 8 (omega arith) in
+      let low : key x < lowest_key y = far i y (omega arith) (omega arith) in
+      let not_below : ¬ IsAncestor y x = λ above. (let own =
+      within intervals y x hy hx above in omega (arith, own.1, low, some)) in
+      let one = subtract_cell a b slots ra rb i j w s x y li lj x_is y_is (omega (arith, low, some)) not_below in
+      subst (λ m. IsSeen a b slots m j w) same
+      (skipped a b slots ra rb n (i + 1) j w y lj y_is (omega (arith, same, le))
+      (λ k d lk ln. far k d (omega (arith, lk)) (omega (arith, ln, same))) one)
+
+  pub skipped_to : (a b slots : List Address) → IsRegion a → IsRegion b → (i p j w : ℕ) (y : Address) → j < length b
+      → ((d : Address) → get_or b j d ≡ y) → i ≤ p → p ≤ length a
+      → ((k : ℕ) (d : Address) → i ≤ k → k < p → key (get_or a k d) < lowest_key y) → IsSeen a b slots i j w
+      → IsSeen a b slots p j w
+  skipped_to a b slots ra rb i p j w y lj y_is on le far s =
+      let same : i + (p - i) ≡ p = omega (arith, on) in
+      subst (λ m. IsSeen a b slots m j w) same
+      (skipped a b slots ra rb (p - i) i j w y lj y_is (omega (arith, same, le))
+      (λ k d lk ln. far k d lk (omega (arith, ln, same))) s)
+
+  pub met : (a b slots : List Address) → IsRegion a → IsRegion b → (i j w : ℕ) → IsSeen a b slots i j w → (length a ≤ i)
+      ⊎ (length b ≤ j) → HoldsShared a b (take w slots)
   met a b slots ra rb i j w s or =
       record {
         shared = λ x m. (let f = front_at slots w x x m in
@@ -232,7 +273,10 @@ module _ (tree : CellsFormTrees) (intervals : CellsFormIntervals) where
             ]));
         all = λ x h. elim h [
           | inl l ↦ all_first a b slots ra rb i j w s or x l.0 l.1
-          | inr r ↦ all_first b a slots rb ra j i w (turned a b slots i j w s) (elim or [ inl p ↦ inr p | inr p ↦ inl p ]) x r.0 r.1
+          | inr r ↦ all_first b a slots rb ra j i w (turned a b slots i j w s)
+              (elim or [ inl p ↦ inr p | inr p ↦ inl p ]) x r.0 r.1
         ];
-        in_order = λ k l d lt lw. (let ll : l < w = omega (arith, lw, length-take w slots) in rw (get_or-take w slots k d (omega (arith, lt, ll)), get_or-take w slots l d ll) (s.rises k l d lt ll));
+        in_order = λ k l d lt lw. (let ll : l < w =
+            omega (arith, lw, length-take w slots) in rw
+            (get_or-take w slots k d (omega (arith, lt, ll)), get_or-take w slots l d ll) (s.rises k l d lt ll));
       }

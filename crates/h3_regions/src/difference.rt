@@ -20,7 +20,7 @@ use h3_tree::laws::{cells_form_intervals, cells_form_trees};
 use h3_tree::{children_at, post_order_key};
 
 /// The lowest key that a cell below another may have.
-fn lowest_key(cell: Cell) -> u64
+pub(crate) fn lowest_key(cell: Cell) -> u64
     ensures { result ≡ lowest_key cell }
 {
     post_order_key(cell).saturating_sub(cell.last_digit_step() - 1)
