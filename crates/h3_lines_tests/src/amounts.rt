@@ -136,7 +136,7 @@ fn is_read(alloc: Global, table: &Table) -> bool {
 }
 
 /// Tables, the rows of their entries and their sums.
-static TABLES: [Table; 8] = [
+static TABLES: [Table; 9] = [
     // a header; a row without a cell has no entry, whatever its number is
     (
         Columns::Headed,
@@ -186,6 +186,14 @@ static TABLES: [Table; 8] = [
         &[1, 4, 5],
         "0.3",
     ),
+    // plain rows between others
+    (
+        Columns::Plain,
+        "85283473fffffff,1\n85283477fffffff,0.25\r\n85283473fffffff, -3 \n85283477fffffff,\"4\"\n,5\n\n\
+         85283473FFFFFFF,6\n85283473fffffff,-0.5,more\n85283473fffffff,\n85283477fffffff,7\n",
+        &[1, 2, 3, 4, 7, 8, 9, 10],
+        "14.75",
+    ),
 ];
 
 #[test]
@@ -196,7 +204,7 @@ fn numbers_of_tables_are_read(rt: HostRuntime) {
 }
 
 /// Tables that are not read, and their errors.
-static FAULTY: [(Columns, &str, AnswerError); 9] = [
+static FAULTY: [(Columns, &str, AnswerError); 11] = [
     (
         Columns::Plain,
         "85283473fffffff,1\n85283473fffffff\n",
@@ -227,6 +235,17 @@ static FAULTY: [(Columns, &str, AnswerError); 9] = [
         Columns::Plain,
         "85283473fffffff,5\" pipe\n",
         AnswerError::AtRow(1, RowError::Bad(RowFault::OpenQuote)),
+    ),
+    // after and before plain rows
+    (
+        Columns::Plain,
+        "85283473fffffff,1\n85283473fffffff,2\n85283473fffffff,x\n85283473fffffff,4, and more\n",
+        AnswerError::AtRow(3, RowError::NotANumber),
+    ),
+    (
+        Columns::Plain,
+        "85283473fffffff,1\n85283473fffffff,2\n81087ffffffffff,3\n85283473fffffff,4, and more\n",
+        AnswerError::AtRow(3, RowError::Call(H3Error::CellInvalid)),
     ),
     // the column of the cells is looked for first
     (

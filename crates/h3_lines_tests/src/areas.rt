@@ -151,7 +151,7 @@ const P: u64 = 0x85283473fffffff;
 const Q: u64 = 0x85283477fffffff;
 
 /// Tables, and their areas.
-static TABLES: [Table; 10] = [
+static TABLES: [Table; 11] = [
     (
         Columns::Headed,
         "zone,cell\nnorth,85283473fffffff\n\"south, old\",85283477fffffff\nnorth,85283473fffffff\nnone,\n",
@@ -229,6 +229,26 @@ static TABLES: [Table; 10] = [
         &["\"a\nb\"", ""],
         &[(P, 0), (Q, 1)],
         &[1, 3],
+    ),
+    // plain rows between others
+    (
+        Columns::Plain,
+        "north,85283473fffffff\nnorth,85283477fffffff\n\"a\nb\",85283473fffffff\r\n south ,85283477fffffff\n\
+         south,85283473fffffff\nnorth,\n\nsouth,85283473FFFFFFF\neast,85283477fffffff\r\n\
+         end of the list,85283473fffffff\n",
+        "",
+        &["north", "\"a\nb\"", "south", "east", "end of the list"],
+        &[
+            (P, 0),
+            (Q, 0),
+            (P, 1),
+            (Q, 2),
+            (P, 2),
+            (P, 2),
+            (Q, 3),
+            (P, 4),
+        ],
+        &[1, 3, 5, 10, 11],
     ),
     (Columns::Plain, "", "", &[], &[], &[]),
 ];

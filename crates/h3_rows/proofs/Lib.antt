@@ -16,6 +16,7 @@ pub mod NamesKept
 pub mod Naming
 pub mod Parts
 pub mod PlainAnswers
+pub mod PlainCells
 pub mod PlainRows
 pub mod ReadBack
 pub mod Returns

@@ -1,5 +1,5 @@
 -- Plain rows that are put with the one line that answers their cell.
-use Rattle.std.proofs.Common.{◌≡◌, ℕ, ◌+◌, ◌-◌, ◌<◌, ◌≤◌, ◌==◌, nat_lt, nat_le, Bool, true, false, not, ◌&&◌, if◌then◌else◌, List, [], ◌∷◌, ◌++◌, length, take, drop, get_or, replicate, Option, None, Some, Ok, sym, ap, ◌∙◌, refl, append_assoc, append-nil, length-append, length-take, eqb-true, arith}
+use Rattle.std.proofs.Common.{◌≡◌, ℕ, ◌+◌, ◌-◌, ◌<◌, ◌≤◌, ◌==◌, nat_le, Bool, true, false, not, ◌&&◌, if◌then◌else◌, List, [], ◌∷◌, ◌++◌, length, take, drop, get_or, replicate, Option, Some, sym, ap, ◌∙◌, refl, append_assoc, append-nil, length-append, length-take, eqb-true, arith}
 use Rattle.std.proofs.KnownBytes.{Appends-nil}
 use Rattle.std.proofs.Math.Seq.{drop-append-add, drop-append_seam, take-append_seam}
 use Rattle.std.proofs.lemmas.Bool.Decides.{nat_tests}
@@ -16,20 +16,19 @@ use Rattle.h3_lines.specs.Answering.{Answered}
 use Rattle.h3_rows.specs.Answering.{PutsPlain, held_of, state_of}
 use Rattle.h3_rows.specs.Lanes.{IsOneLine}
 use Rattle.h3_rows.specs.Plain.{IsPlainField, IsPlainRow}
-use Rattle.h3_rows.specs.Row.{field_text, is_empty_row, next_number, read_of, returns_of, row_body, unmarked, unquoted}
-use Rattle.h3_rows.specs.RowsAnswer.{Form, Step, answered_with, goes_on, malformed, row_cell, row_step, row_with, rows_then, rows_with, text_cell}
+use Rattle.h3_rows.specs.Row.{field_text, next_number, returns_of, unmarked, unquoted}
+use Rattle.h3_rows.specs.RowsAnswer.{Form, Step, answered_with, goes_on, row_step, row_with, rows_then, rows_with}
 use Rattle.h3_lines.specs.Pieces.{CutsAt, Uncut, inside_after, pieces_of}
-use Rattle.h3_rows.specs.declared.row_cell.RowCell.TheVariants.{Index}
 use Rattle.h3_rows.specs.declared.state.Columns.{Columns}
 use Rattle.h3_rows.specs.declared.state.RowState.{RowState}
 use Rattle.h3_rows.proofs.Beside.{closed_before, one_with}
 use Rattle.h3_rows.proofs.Blanks.{other_last}
 use Rattle.h3_lines.specs.PiecesLaws.{cut_at_mark}
-use Rattle.h3_rows.proofs.WholeFields.{feedless_uncut, row_bare, row_feeds, row_returnless, row_sound, row_uncut}
+use Rattle.h3_rows.proofs.WholeFields.{feedless_uncut, row_bare, row_feeds, row_uncut}
 use Rattle.h3_rows.proofs.Marks.{later_mark, later_unmarked}
-use Rattle.h3_rows.proofs.Returns.{body_of_row, returns_of_row, row_length}
+use Rattle.h3_rows.proofs.Returns.{returns_of_row, row_length}
+use Rattle.h3_rows.proofs.PlainCells.{not_first, plain_body, plain_filled, plain_said, plain_sound, same_quotes}
 use Rattle.h3_rows.proofs.Steps.{passed_is}
-use Rattle.h3_rows.proofs.Texts.{text_cell_parsed}
 
 -- ---- digits are no blanks and no quotes
 
@@ -97,55 +96,28 @@ some_from_test (x ∷ xs) b is h = omega arith
 -- ---- the row
 
 module _ (form : Form) (answer : Option ℕ → Answer) (s : RowState) (k : Columns) (known : s.columns ≡ Some k) (later : s.number ≡ 1 → ⊥) (silent : form.shows_errors ≡ false) where
-  not_first : (s.number == 1) ≡ false
-  not_first = grind (arith, nat_tests)
-
   module _ (bytes row field held : List ℕ) (n : ℕ) (p : IsPlainRow form.separator form.quotes k bytes row n field)
-      (some : 0 < length row) (few : length row ≤ 32768) where
+      (some : 0 < length row) (few : length row ≤ 1048575) where
     abbrev line : List ℕ
     line = row ++ replicate n 13
-
-    body : row_body line ≡ row
-    body = body_of_row row n (row_bare row p.whole.on_line)
-
-    read : read_of s.number row ≡ row
-    read = rw not_first refl
-
-    sound : malformed form s.number (line, false) ≡ None
-    sound =
-        let short : nat_lt 1048575 (length row) ≡ false = grind (arith, nat_tests) in
-        let less : length line ≤ 1114111 = omega (arith, row_length row n, p.few, few) in
-        let small : nat_lt 1114111 (length line) ≡ false = grind (arith, nat_tests) in
-        rw (
-          body,
-          read,
-          short,
-          small,
-          row_returnless form.quotes row p.whole.on_line,
-          row_sound form.separator form.quotes row p.whole,
-        ) refl
-
-    said : (index : ℕ) → IsPlainField form.quotes field index → row_cell form s.number k row ≡ Ok (Index index)
-    said index plain =
-        rw (
-          read,
-          p.as_wide,
-          p.field_is,
-        ) (ap text_cell plain.text_is ∙ sym (text_cell_parsed plain.text index plain.parses))
 
     steps : (index : ℕ) (text : List ℕ) → IsPlainField form.quotes field index → answer (Some index) ≡ written text
         → row_step form answer (state_of s held) (line, false)
         ≡ goes_on (state_of s held) line (answered_with form line text)
     steps index text plain is =
-        let long : (length row == 0) ≡ false = grind (arith, nat_tests) in
-        let filled : is_empty_row s.number row ≡ false = ap (λ l. length l == 0) read ∙ long in
-        let bare : unmarked s.number line ≡ line = later_unmarked s.number line not_first in
-        rw (known, sound, bare, body, filled, later_mark s.number row not_first, said index plain, is) refl
+        let first = not_first form s.number k later in
+        let sound = plain_sound form s.number k later bytes row field n p few in
+        let body = plain_body form s.number k later bytes row field n p in
+        let filled = plain_filled form s.number k later bytes row field n p some in
+        let said = plain_said form s.number k later bytes row field n p index plain in
+        let bare : unmarked s.number line ≡ line = later_unmarked s.number line first in
+        rw (known, sound, bare, body, filled, later_mark s.number row first, said, is) refl
 
     one_row : (text : List ℕ) (l : IsOneLine text) → inside_after form.quoted_answers false text ≡ false
         → answered_with form line text
         ≡ row ++ (form.separator ∷ (l.line ++ (replicate n 13 ++ 10 ∷ [])))
     one_row text l closed =
+        let body = plain_body form s.number k later bytes row field n p in
         let within : inside_after form.quoted_answers false l.line ≡ false =
         closed_before form.quoted_answers l.line (rw l.split at closed) in
         let whole : Uncut 10 form.quoted_answers false l.line false =
@@ -160,7 +132,7 @@ module _ (form : Form) (answer : Option ℕ → Answer) (s : RowState) (k : Colu
 
   pub puts_plain : (bytes row field held held' text : List ℕ) (n index : ℕ)
       → IsPlainRow form.separator form.quotes k bytes row n field → IsPlainField form.quotes field index
-      → length row ≤ 32768 → 0 < length row → answer (Some index) ≡ written text → (l : IsOneLine text)
+      → length row ≤ 1048575 → 0 < length row → answer (Some index) ≡ written text → (l : IsOneLine text)
       → inside_after form.quoted_answers false text ≡ false
       → held' ≡ (held ++ (row ++ form.separator ∷ [])) ++ (l.line ++ (replicate n 13 ++ 10 ∷ []))
       → PutsPlain form answer s bytes held held' (length row + n) n
@@ -234,12 +206,6 @@ module _ {S : Type 0} (taken : S → Option (List ℕ)) (failed : S → Bool) wh
             (λ (x : Step). then_answer x.answer.output x.answer.ending (rows_then last form answer x.after more)) step;
         moves = record { part = []; split = rw (b, known) (sym p.put); grown = Appends-nil (taken sink); sound = refl };
       }
-
-same_quotes : (p q : Bool) → not (beq p q) ≡ false → p ≡ q
-same_quotes true true h = refl
-same_quotes true false h = absurd (cc)
-same_quotes false true h = absurd (cc)
-same_quotes false false h = refl
 
 -- a plain row ends at its line feed, whether quotes count or not
 pub plain_cuts : (form : Form) (answer : Option ℕ → Answer) (s : RowState) (bytes held held' : List ℕ)

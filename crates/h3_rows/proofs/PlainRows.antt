@@ -215,6 +215,37 @@ module _ (separator : ℕ) (quotes : Bool) (quote : (34 == separator) ≡ false)
       (whole_row separator quotes quote (take last tail) whole)))
       (ap (λ n. is_as_wide columns.width (columns.before + n)) all ∙ wide))
 
+  -- the first bytes, up to a place after those that are passed over
+  first_bytes : (before left part size : ℕ) (bytes rest : List ℕ) → (p : PassesFields separator quotes before left bytes rest)
+      → length bytes - length rest + part ≡ size → take size bytes ≡ p.front ++ take part rest
+  first_bytes before left part size bytes rest p is =
+      let long : length bytes ≡ length p.front + length rest = ap length p.split ∙ length-append p.front rest in
+      let count : size ≡ length p.front + part = omega (arith, long, is) in
+      ap (λ n. take n bytes) count ∙ ap (take (length p.front + part)) p.split ∙ take-append-add p.front rest part
+
+  -- a field of a row that is these first bytes: its last one, and one that the separator ends
+  pub last_field : (before end size : ℕ) (bytes rest : List ℕ) → PassesFields separator quotes before 0 bytes rest
+      → IsWhole separator quotes (take end rest) → length bytes - length rest + end ≡ size
+      → piece_at before (cut separator quotes false (take size bytes)) ≡ Some (take end rest)
+  last_field before end size bytes rest p whole is =
+      ap (λ l. piece_at before (cut separator quotes false l)) (first_bytes before 0 end size bytes rest p is)
+      ∙ p.passed (take end rest) ∙ field_last separator quotes false (take end rest) 0 refl whole.uncut
+
+  pub ended_field : (before end size : ℕ) (bytes rest : List ℕ) → PassesFields separator quotes before 0 bytes rest
+      → IsWhole separator quotes (take end rest) → end < length rest → get_or rest end 0 ≡ separator
+      → length bytes - length rest + end < size
+      → piece_at before (cut separator quotes false (take size bytes)) ≡ Some (take end rest)
+  ended_field before end size bytes rest p whole inside mark less =
+      let more = size - (length bytes - length rest + end + 1) in
+      let place : length bytes - length rest + (end + 1 + more) ≡ size = omega (arith, less) in
+      let tail = take more (drop (end + 1) rest) in
+      let row : take size bytes ≡ p.front ++ (take end rest ++ separator ∷ tail) =
+      first_bytes before 0 (end + 1 + more) size bytes rest p place
+      ∙ ap (λ l. p.front ++ l) (first_part rest end more inside mark) in
+      ap (λ l. piece_at before (cut separator quotes false l)) row ∙ p.passed (take end rest ++ separator ∷ tail)
+      ∙ field_here separator quotes (take end rest ++ separator ∷ tail) (take end rest) tail 0 refl
+      (record { begins = whole.uncut; split = refl })
+
   -- the row that bytes begin with
   pub plain_row : (columns : Columns) (bytes rest : List ℕ) (end last returns : ℕ)
       → PassesFields separator quotes columns.before 0 bytes rest → EndsPlain separator quotes columns rest end last

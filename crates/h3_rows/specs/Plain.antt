@@ -1,12 +1,14 @@
 -- Rows with whole fields alone, found by a look at sixteen bytes at once. Private contracts and proofs alone cite this
 -- file.
-use Rattle.std.specs.Prelude.{◌≡◌, ℕ, ◌+◌, ◌<◌, ◌≤◌, ◌==◌, ◌||◌, Bool, true, false, not, List, ◌∷◌, ◌++◌, length, replicate, take, Some, if◌then◌else◌}
+use Rattle.std.specs.Prelude.{◌≡◌, ℕ, ◌+◌, ◌<◌, ◌≤◌, ◌==◌, ◌||◌, Bool, true, false, not, List, ◌∷◌, ◌++◌, length, replicate, take, None, Ok, Some, if◌then◌else◌}
+use Rattle.h3_index.specs.Cell.{Address}
 use Rattle.h3_index.specs.Text.{parsed_index}
-use Rattle.std.specs.List.{list_all}
+use Rattle.std.specs.List.{count_by, list_all}
 use Rattle.memchr.specs.Find.{is_byte2, is_byte3}
 use Rattle.h3_lines.specs.Pieces.{Uncut, cut, inside_after}
-use Rattle.h3_rows.specs.Row.{field_text, is_read_alike, opens_well, piece_at, quotes_are_sound}
-use Rattle.h3_rows.specs.RowsAnswer.{is_as_wide}
+use Rattle.h3_rows.specs.Cells.{cell_read}
+use Rattle.h3_rows.specs.Row.{field_text, is_empty_row, is_read_alike, opens_well, piece_at, quotes_are_sound, read_of, row_body}
+use Rattle.h3_rows.specs.RowsAnswer.{Form, is_as_wide, malformed, row_cell}
 use Rattle.h3_rows.specs.declared.state.Columns.{Columns}
 
 -- the quote if quotes count, and else a line feed
@@ -83,3 +85,18 @@ pub record IsPlainRow (separator : ℕ) (quotes : Bool) (columns : Columns) (byt
   pub whole : IsWholeRow separator quotes row
   pub field_is : piece_at columns.before (cut separator quotes false row) ≡ Some field
   pub as_wide : is_as_wide columns.width (length (cut separator quotes false row)) ≡ true
+
+-- the bytes begin with a row, with at most one carriage return and a line feed after it, that has no other line feed
+-- and nothing wrong, is not empty, is read whole as the row with this number, and has this cell
+pub record IsPlainCell (form : Form) (number : ℕ) (columns : Columns) (bytes row : List ℕ) (returns : ℕ)
+    (cell : Address) : Type 0 where
+  pub after : List ℕ
+  pub split : bytes ≡ (row ++ replicate returns 13) ++ 10 ∷ after
+  pub few : returns ≤ 1
+  pub whole : Uncut 10 form.quotes false (row ++ replicate returns 13) false
+  pub feedless : count_by (λ b. b == 10) (row ++ replicate returns 13) ≡ 0
+  pub sound : malformed form number (row ++ replicate returns 13, false) ≡ None
+  pub body_is : row_body (row ++ replicate returns 13) ≡ row
+  pub read_is : read_of number row ≡ row
+  pub filled : is_empty_row number row ≡ false
+  pub cell_is : cell_read (row_cell form number columns row) ≡ Ok (Some cell)

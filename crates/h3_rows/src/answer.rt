@@ -8,7 +8,6 @@ ghost use Rattle.h3_lines.specs.declared.run_error.AnswerError.TheVariants.{AtRo
 ghost use Rattle.h3_lines.specs.Answering.{EndsBy};
 ghost use Rattle.h3_rows.specs.Answering.{BreaksCell, PutsCell, PutsPlain, StepEnds, StepsTo, form_of_job, held_of, mark_in, state_of};
 ghost use Rattle.h3_rows.specs.Line.{line_of};
-ghost use Rattle.h3_rows.specs.Plain.{IsPlainField};
 ghost use Rattle.h3_rows.specs.RowForm.{columns_form};
 ghost use Rattle.h3_rows.specs.RowsAnswer.{State, answer_to_cell, error_field, faulty, filled_step, marked, row_step};
 
@@ -17,7 +16,7 @@ use crate::function::{RowFunction, Workspace};
 use crate::job::RowJob;
 use crate::lanes::is_one_line;
 use crate::line::without_mark;
-use crate::plain::{find_plain, text_between};
+use crate::plain::{find_plain, read_plain_field};
 use crate::put::{
     hold_ending, hold_mark, hold_row, make_room, put_empty, put_header, put_unanswered,
 };
@@ -25,7 +24,6 @@ use crate::reading::{malformed, read_row};
 use crate::row::Row;
 use crate::row_cell::RowCell;
 use crate::state::{Columns, RowState};
-use h3_index::read_plain;
 use h3_lines::{ANSWER, AnswerError, BLOCK, RowError, RowFault, RunError, write_held};
 use h3_requests::RowOptions;
 use h3_streams::Sink;
@@ -237,27 +235,6 @@ pub(crate) fn put_answer<'f, W: Sink, F: RowFunction>(
         None => put_header(out, block, end, job, state, row),
         Some(columns) => put_filled(out, block, end, job, work, numbers, state, columns, row),
     }
-}
-
-/// The index of a field that has a plain text between its quotes.
-// A call: inlined, it would make `put_plain` too long to be inlined itself.
-#[inline(never)]
-fn read_quoted_field(quotes: bool, field: &[u8]) -> Option<u64>
-    ensures { IfSome result (λ index. IsPlainField quotes field.now index) }
-{
-    let index = read_plain(text_between(quotes, field))?;
-    Some(index)
-}
-
-/// The index of a field that is a plain text, or has one between its quotes.
-#[inline(always)]
-fn read_plain_field(quotes: bool, field: &[u8]) -> Option<u64>
-    ensures { IfSome result (λ index. IsPlainField quotes field.now index) }
-{
-    if let Some(index) = read_plain(field) {
-        return Some(index);
-    }
-    read_quoted_field(quotes, field)
 }
 
 /// Puts the row that bytes begin with and the answer to its cell, if it is plain and has room, and

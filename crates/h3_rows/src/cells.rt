@@ -15,6 +15,7 @@ ghost use Rattle.h3_rows.specs.declared.reading.TheConstants.{LONGEST};
 use crate::fields::read_of;
 use crate::header::columns_in;
 use crate::line::row_of;
+use crate::plain::find_plain_cell;
 use crate::reading::{LONGEST, malformed, read_row};
 use crate::row::Row;
 use crate::row_cell::RowCell;
@@ -142,6 +143,29 @@ impl<'f, V: CellJob> Job for RowCells<'f, V> {
                 Ok(self.job.take(cell, None)?)
             }
             Err(error) => Err(RunError::Error(error)),
+        }
+    }
+
+    #[inline(always)]
+    fn take_first<'b>(
+        &mut self,
+        quotes: bool,
+        bytes: &'b [u8],
+    ) -> Result<Option<&'b [u8]>, RunError> {
+        if quotes != self.options.quotes {
+            return Ok(None);
+        }
+        let Some(columns) = self.state.columns else {
+            return Ok(None);
+        };
+        match find_plain_cell(self.options, self.state.number, columns, bytes) {
+            Some(found) => {
+                let size = found.row.body.len() + found.row.returns;
+                self.state.count();
+                self.job.take(found.cell, None)?;
+                Ok(Some(&bytes[size + 1..]))
+            }
+            None => Ok(None),
         }
     }
 }

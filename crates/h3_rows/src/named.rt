@@ -1,14 +1,15 @@
 //! The rows of a table in which one field has a cell, and a second one a text or a number.
 
-ghost use Rattle.std.specs.Prelude.{◌≡◌, ◌+◌, ◌<◌, ◌≤◌, ◌++◌, ◌∷◌, ◌^◌, ⊤, ℕ, true, List, [], length, option_map, Ok, Err, IfOk, IfErr, OnOk, vec_capacity};
+ghost use Rattle.std.specs.Prelude.{◌≡◌, ◌+◌, ◌<◌, ◌≤◌, ◌++◌, ◌∷◌, ◌^◌, ⊤, ℕ, true, List, [], length, option_map, Some, Ok, Err, IfOk, IfErr, IfSome, OnOk, vec_capacity};
+ghost use Rattle.h3_index.specs.Cell.{Address};
 ghost use Rattle.h3_lines.specs.Taking.{HaveCells, RefusesCells};
 ghost use Rattle.h3_lines.specs.TakingLaws.{have_none, have_then, refuses_after};
 ghost use Rattle.h3_lines.specs.declared.run_error.Fault.TheVariants.{Memory};
 ghost use Rattle.h3_lines.specs.declared.run_error.RunError.TheVariants as refusal;
 ghost use Rattle.h3_requests.specs.Rows.{is_counted};
 ghost use Rattle.h3_rows.specs.Line.{line_of};
-ghost use Rattle.h3_rows.specs.Named.{AllNamedRead, Entry, RefusesNamed, entry_list, name_at, named_end, named_found, named_row, table_columns, table_first, table_of, title_list, with_number, with_text, without_name};
-ghost use Rattle.h3_rows.specs.NamedIn.{named_in, table_in};
+ghost use Rattle.h3_rows.specs.Named.{AllNamedRead, Entry, RefusesNamed, entry_list, name_at, named_end, named_found, named_row, table_columns, table_first, table_of, title_list, with_field, with_number, with_text, without_name};
+ghost use Rattle.h3_rows.specs.NamedIn.{IsPlainEntry, named_in, table_in};
 ghost use Rattle.h3_rows.specs.Row.{next_number};
 ghost use Rattle.h3_rows.specs.RowForm.{form_of};
 ghost use Rattle.h3_rows.specs.declared.reading.TheConstants.{LONGEST};
@@ -18,8 +19,9 @@ use crate::fields::{find_field, read_of, trimmed};
 use crate::header::{chosen_field, columns_in};
 use crate::line::row_of;
 use crate::numbers::field_number;
+use crate::plain::{find_plain_cell, find_whole_field};
 use crate::reading::{LONGEST, malformed};
-use crate::row::Row;
+use crate::row::{EntryRow, Row};
 use crate::state::first_state;
 use crate::table::{FieldContent, TableColumns, TableForm, TableState};
 use h3_index::Cell;
@@ -180,6 +182,52 @@ fn find_named<'r>(
     }
 }
 
+/// Whether a second field has what it should.
+fn has_content(table: &TableForm<'_>, field: &[u8]) -> bool
+    ensures { result ≡ true → (cell : Address) →
+        with_field table.now.content table.now.rows.now.quotes (Ok (Some cell)) (Some field.now)
+        ≡ Ok (Some (Some cell, field.now)) }
+{
+    match table.content {
+        FieldContent::Text => true,
+        FieldContent::Number => match field_number(table.rows.quotes, field) {
+            Some(_) => true,
+            None => false,
+        },
+    }
+}
+
+/// The cell and the second field of the row that bytes begin with, and how many bytes this has, if the row is
+/// plain and not the first one, its cell a plain text and valid, and its second field whole, with what it should
+/// have. `None` may be answered to any other bytes, and if a stop is near to their end.
+#[inline(always)]
+fn find_plain_entry<'b>(
+    table: &TableForm<'_>,
+    number: u64,
+    columns: TableColumns,
+    bytes: &'b [u8],
+) -> Option<EntryRow<'b>>
+    ensures { IfSome result (λ r.
+        IsPlainEntry (table_in table.now) number columns bytes.now r.cell r.field.now r.size) }
+{
+    let Some(found) = find_plain_cell(table.rows, number, columns.cell, bytes) else {
+        return None;
+    };
+    let separator = table.rows.separator;
+    let quotes = table.rows.quotes;
+    let end = found.row.body.len();
+    let field = find_whole_field(separator, quotes, columns.name, end, bytes)?;
+    let field = trimmed(field);
+    if !has_content(table, field) {
+        return None;
+    }
+    Some(EntryRow {
+        cell: found.cell,
+        field,
+        size: end + found.row.returns,
+    })
+}
+
 /// A job over the cells of a table with the second fields of their rows.
 pub trait NamedJob {
     /// A number that grows by one at most for each cell.
@@ -263,6 +311,29 @@ impl<'f, V: NamedJob> Job for NamedRows<'f, V> {
                 self.job.take(cell, field, number)
             }
             Err(error) => Err(RunError::Error(error)),
+        }
+    }
+
+    #[inline(always)]
+    fn take_first<'b>(
+        &mut self,
+        quotes: bool,
+        bytes: &'b [u8],
+    ) -> Result<Option<&'b [u8]>, RunError> {
+        if quotes != self.table.rows.quotes {
+            return Ok(None);
+        }
+        let Some(columns) = self.state.columns else {
+            return Ok(None);
+        };
+        let number = self.state.number;
+        match find_plain_entry(self.table, number, columns, bytes) {
+            Some(found) => {
+                self.state.count();
+                self.job.take(Some(found.cell), found.field, number)?;
+                Ok(Some(&bytes[found.size + 1..]))
+            }
+            None => Ok(None),
         }
     }
 }

@@ -1,15 +1,20 @@
 //! Rows of whole fields, each without quotes, or between two quotes that count, that are found by a look
 //! at sixteen bytes at once. They have no carriage returns but for one at their end.
 
-ghost use Rattle.std.specs.Prelude.{◌≡◌, ◌==◌, ◌+◌, ◌++◌, ◌∷◌, ◌<◌, ◌≤◌, false, drop, get_or, not, true, length, replicate, take, IfSome};
+ghost use Rattle.std.specs.Prelude.{◌≡◌, ◌==◌, ◌+◌, ◌++◌, ◌∷◌, ◌<◌, ◌≤◌, [], Some, false, drop, get_or, not, true, length, replicate, take, IfSome};
 ghost use Rattle.std.specs.Char.{is_digit};
 ghost use Rattle.std.specs.List.{list_all};
-ghost use Rattle.h3_rows.specs.Plain.{EndsPlain, IsPlainRow, IsWhole, IsWholeRow, PassesFields, is_byte4, quote_or_feed};
-ghost use Rattle.h3_rows.specs.Row.{field_text};
+ghost use Rattle.h3_lines.specs.Pieces.{cut};
+ghost use Rattle.h3_rows.specs.Plain.{EndsPlain, IsPlainCell, IsPlainField, IsPlainRow, IsWhole, IsWholeRow, PassesFields, is_byte4, quote_or_feed};
+ghost use Rattle.h3_rows.specs.Row.{field_text, piece_at};
+ghost use Rattle.h3_rows.specs.RowForm.{form_of};
 
 use crate::lanes::find_stop;
-use crate::row::Row;
+use crate::reading::LONGEST_ROW;
+use crate::row::{CellRow, Row};
 use crate::state::Columns;
+use h3_index::{Cell, read_plain};
+use h3_requests::RowOptions;
 
 /// The quote if quotes count, and else a line feed: what a field without quotes does not have.
 #[inline(always)]
@@ -186,7 +191,7 @@ fn count_returns(bytes: &[u8], at: usize) -> Option<usize>
 }
 
 /// The text of a whole field, if it is one of digits: what is between its quotes.
-pub(crate) fn text_between(quotes: bool, field: &[u8]) -> &[u8]
+fn text_between(quotes: bool, field: &[u8]) -> &[u8]
     ensures { list_all (λ b. is_digit b 16) result.now ≡ true
         → field_text quotes field.now ≡ result.now }
 {
@@ -194,6 +199,27 @@ pub(crate) fn text_between(quotes: bool, field: &[u8]) -> &[u8]
         return &field[1..field.len() - 1];
     }
     field
+}
+
+/// The index of a field that has a plain text between its quotes.
+// A call: inlined, it would make its callers too long to be inlined themselves.
+#[inline(never)]
+fn read_quoted_field(quotes: bool, field: &[u8]) -> Option<u64>
+    ensures { IfSome result (λ index. IsPlainField quotes field.now index) }
+{
+    let index = read_plain(text_between(quotes, field))?;
+    Some(index)
+}
+
+/// The index of a field that is a plain text, or has one between its quotes.
+#[inline(always)]
+pub(crate) fn read_plain_field(quotes: bool, field: &[u8]) -> Option<u64>
+    ensures { IfSome result (λ index. IsPlainField quotes field.now index) }
+{
+    if let Some(index) = read_plain(field) {
+        return Some(index);
+    }
+    read_quoted_field(quotes, field)
 }
 
 /// The row that bytes begin with, and its cell's field, if the row ends in them with at most one
@@ -217,4 +243,56 @@ pub(crate) fn find_plain(
     let returns = count_returns(rest, last)?;
     let body = &bytes[..bytes.len() - rest.len() + last];
     Some((Row { body, returns }, &rest[..end]))
+}
+
+/// The cell of the row that bytes begin with, and that row, if it is plain and not the first one, and its cell a
+/// plain text and valid. `None` may be answered to any other bytes, and if a stop is near to their end.
+#[inline(always)]
+pub(crate) fn find_plain_cell<'b>(
+    options: &RowOptions,
+    number: u64,
+    columns: Columns,
+    bytes: &'b [u8],
+) -> Option<CellRow<'b>>
+    ensures { IfSome result (λ r. IsPlainCell (form_of options.now []) number columns bytes.now
+        r.row.body.now r.row.returns r.cell) }
+{
+    let (row, field) = find_plain(options.separator, options.quotes, columns, bytes)?;
+    let index = read_plain_field(options.quotes, field)?;
+    // A byte order mark is before the first row alone.
+    if number == 1 || row.body.is_empty() || row.body.len() > LONGEST_ROW {
+        return None;
+    }
+    match Cell::new(index) {
+        Ok(cell) => Some(CellRow { row, cell }),
+        Err(_) => None,
+    }
+}
+
+/// The field after `before` others of the row that is the first `size` of these bytes, if all these fields are
+/// whole. `None` may be answered to any other, and if a stop is near to the end of the bytes.
+#[inline(always)]
+pub(crate) fn find_whole_field(
+    separator: u8,
+    quotes: bool,
+    before: usize,
+    size: usize,
+    bytes: &[u8],
+) -> Option<&[u8]>
+    requires quote { (34 == separator) ≡ false }
+    requires feed { (10 == separator) ≡ false }
+    requires carriage { (13 == separator) ≡ false }
+    requires within { size ≤ length bytes.now }
+    ensures { IfSome result (λ field.
+        piece_at before (cut separator quotes false (take size bytes.now)) ≡ Some field.now) }
+{
+    let (rest, end) = pass_fields(separator, quotes, before, bytes)?;
+    let at = bytes.len() - rest.len() + end;
+    if at == size {
+        return Some(&rest[..end]);
+    }
+    if at < size && rest[end] == separator {
+        return Some(&rest[..end]);
+    }
+    None
 }

@@ -24,7 +24,7 @@ use memchr::memchr;
 pub(crate) const LONGEST: usize = 1_114_111;
 
 /// The bytes that a row may have without its ending and a byte order mark.
-const LONGEST_ROW: usize = 1_048_575;
+pub(crate) const LONGEST_ROW: usize = 1_048_575;
 
 /// What the text of a field says.
 fn text_cell(text: &[u8]) -> Result<RowCell, RowFault>

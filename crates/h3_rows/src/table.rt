@@ -68,4 +68,14 @@ impl TableState {
             columns,
         }
     }
+
+    /// Passes a row without line feeds that changes nothing but the number.
+    #[inline(always)]
+    pub(crate) fn count(&mut self)
+        requires { self.old.number < 2 ^ 63 }
+        ensures number { self.new.number ≡ self.old.number + 1 }
+        ensures columns { self.new.columns ≡ self.old.columns }
+    {
+        self.number += 1;
+    }
 }

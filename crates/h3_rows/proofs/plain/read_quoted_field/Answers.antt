@@ -1,4 +1,4 @@
-use Rattle.h3_rows.proofs.answer.read_quoted_field.Goals as goal
+use Rattle.h3_rows.proofs.plain.read_quoted_field.Goals as goal
 
 pub returns : goal.returns
 returns c = record {

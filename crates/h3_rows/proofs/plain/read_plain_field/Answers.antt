@@ -1,5 +1,5 @@
 use Rattle.h3_rows.proofs.PlainAnswers.{digits_text}
-use Rattle.h3_rows.proofs.answer.read_plain_field.Goals as goal
+use Rattle.h3_rows.proofs.plain.read_plain_field.Goals as goal
 
 pub returns-in-Some : goal.returns-in-Some
 returns-in-Some c = record {
