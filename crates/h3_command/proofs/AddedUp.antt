@@ -1,5 +1,5 @@
 -- The sums of areas add up to the sum of all numbers.
-use Rattle.std.proofs.Common.{ℕ, zero, suc, ◌≡◌, ◌≢◌, ◌+◌, ◌<◌, ◌≤◌, List, [], ◌∷◌, ◌++◌, length, map, not, cond, Contains, Bool, true, false, refl, arith, ◌∙◌, sym, ap, subst, inl, inr}
+use Rattle.std.proofs.Common.{ℕ, zero, suc, ◌≡◌, ◌≢◌, ◌+◌, ◌<◌, ◌≤◌, List, [], ◌∷◌, map, not, cond, Contains, Bool, true, false, refl, arith, ◌∙◌, sym, ap, inl, inr}
 use Rattle.std.specs.Prelude.{ℤ, pos, ◌+ℤ◌}
 use Rattle.std.specs.List.{filter, range_with_len}
 use Rattle.std.proofs.Math.IntN.{+ℤ_assoc, +ℤ_comm, +ℤ_idl, +ℤ_idr}
@@ -22,7 +22,7 @@ sums_in_parts law = record {
 -- ---- one number among none
 
 -- a number, or 0
-abbrev if_so : ℤ → Bool → ℤ
+abbrev pub if_so : ℤ → Bool → ℤ
 if_so v b = cond b v (pos 0)
 
 none_so : (v : ℤ) (p : ℕ → Bool) (a n : ℕ) → ((k : ℕ) → a ≤ k → k < a + n → p k ≡ false)
@@ -55,28 +55,31 @@ one_so v p a (suc n) m le lt t h =
 
 -- ---- a cell before others
 
-sum_cons : (test : Address → Bool) (a : Amount) (more : List Amount)
+pub sum_cons : (test : Address → Bool) (a : Amount) (more : List Amount)
     → sum_where test (a ∷ more) ≡ if_so a.1 (test a.0) +ℤ sum_where test more
 sum_cons test a more =
     let rest = filter (λ (b : Amount). test b.0) more in
-    let go : (t : Bool) → total (map (λ (b : Amount). b.1) (cond t (a ∷ rest) rest)) ≡ if_so a.1 t +ℤ sum_where test more =
-    λ t. elim t as (λ t. total (map (λ (b : Amount). b.1) (cond t (a ∷ rest) rest)) ≡ if_so a.1 t +ℤ sum_where test more) [ true ↦ refl | false ↦ sym (+ℤ_idl (sum_where test more)) ] in
+    let go : (t : Bool) → total (map (λ (b : Amount). b.1) (cond t (a ∷ rest) rest))
+    ≡ if_so a.1 t +ℤ sum_where test more =
+    λ t. elim t as (λ t. total (map (λ (b : Amount). b.1) (cond t (a ∷ rest) rest))
+    ≡ if_so a.1 t +ℤ sum_where test more) [ true ↦ refl | false ↦ sym (+ℤ_idl (sum_where test more)) ] in
     go (test a.0)
 
-swapped : (a b c d : ℤ) → (a +ℤ b) +ℤ (c +ℤ d) ≡ (a +ℤ c) +ℤ (b +ℤ d)
+pub swapped : (a b c d : ℤ) → (a +ℤ b) +ℤ (c +ℤ d) ≡ (a +ℤ c) +ℤ (b +ℤ d)
 swapped a b c d =
     +ℤ_assoc a b (c +ℤ d)
     ∙ ap (λ l. a +ℤ l) (sym (+ℤ_assoc b c d) ∙ ap (λ l. l +ℤ d) (+ℤ_comm b c) ∙ +ℤ_assoc c b d)
     ∙ sym (+ℤ_assoc a c (b +ℤ d))
 
-both_totals : (f g h : ℕ → ℤ) (ks : List ℕ) → ((k : ℕ) → f k ≡ g k +ℤ h k)
+pub both_totals : {A : Type 0} (f g h : A → ℤ) (ks : List A) → ((k : A) → f k ≡ g k +ℤ h k)
     → total (map f ks) ≡ total (map g ks) +ℤ total (map h ks)
 both_totals f g h [] is = refl
 both_totals f g h (k ∷ ks) is =
     ap (λ l. l +ℤ total (map f ks)) (is k) ∙ ap (λ l. (g k +ℤ h k) +ℤ l) (both_totals f g h ks is)
     ∙ swapped (g k) (h k) (total (map g ks)) (total (map h ks))
 
-module _ (tested : AreasAreTested) (one : OneAreaAtMost) (areas : List (Address × ℕ)) (size : ℕ) (apart : AreApart areas)
+module _ (tested : AreasAreTested) (one : OneAreaAtMost) (areas : List (Address × ℕ)) (size : ℕ)
+    (apart : AreApart areas)
     (small : (c : Address) (n : ℕ) → Contains areas (c, n) → n < size) where
   -- a number is in the sum of one area, or in that of none
   once : (x : Address) (v : ℤ)

@@ -50,8 +50,10 @@ read_cell_is_fine : (m : ℕ) (c : Address) → cell_in m ≡ Some c → resolut
 unfolding cell_in
 read_cell_is_fine m c is =
     let a = address_in m in
-    let either : (t : Bool) → (is_cell a && number_of a == m) ≡ t → (if t then Some a else None) ≡ Some c → resolution c < 16 =
-    λ t. elim t as (λ t. (is_cell a && number_of a == m) ≡ t → (if t then Some a else None) ≡ Some c → resolution c < 16) [
+    let either : (t : Bool) → (is_cell a && number_of a == m) ≡ t → (if t then Some a else None) ≡ Some c
+    → resolution c < 16 =
+    λ t. elim t as (λ t. (is_cell a && number_of a == m) ≡ t → (if t then Some a else None) ≡ Some c
+    → resolution c < 16) [
       | true ↦
           λ yes same. subst (λ x. resolution x < 16) (same_Some a c same)
           (fine_cell a (both (is_cell a) (number_of a == m) yes).0)
@@ -68,8 +70,10 @@ names_alike_at : (none : List ℕ) (names : List (List ℕ)) (areas others : Lis
     → (index : Option ℕ) → name_answer none names areas index ≡ name_answer none names others index
 names_alike_at none names areas others alike None = refl
 names_alike_at none names areas others alike (Some m) =
-    let either : (o : Option Address) → cell_in m ≡ o → printed (name_lines none names areas) (ok_or o CellInvalid) ≡ printed (name_lines none names others) (ok_or o CellInvalid) =
-    λ o. elim o as (λ o. cell_in m ≡ o → printed (name_lines none names areas) (ok_or o CellInvalid) ≡ printed (name_lines none names others) (ok_or o CellInvalid)) [
+    let either : (o : Option Address) → cell_in m ≡ o → printed (name_lines none names areas) (ok_or o CellInvalid)
+    ≡ printed (name_lines none names others) (ok_or o CellInvalid) =
+    λ o. elim o as (λ o. cell_in m ≡ o → printed (name_lines none names areas) (ok_or o CellInvalid)
+    ≡ printed (name_lines none names others) (ok_or o CellInvalid)) [
       | None ↦ λ is. refl
       | Some c ↦
           λ is. ap (λ list. written (flat_map (λ name. name ++ 10 ∷ []) (names_or none names list)))
@@ -162,7 +166,8 @@ name_lines_uncut law options bytes file entries table reads holds =
     let each =
     law (names_table options.table) bytes entries
     (no_quote_separates separator options.table.rows.separates) reads.is in
-    let uncut : All (λ name. Uncut 10 quotes false name false) (area_names quotes entries) = λ k d short. (let own = each k d short in record { uncut = own.on_line; inside_is = own.closed }) in
+    let uncut : All (λ name. Uncut 10 quotes false name false) (area_names quotes entries) =
+    λ k d short. (let own = each k d short in record { uncut = own.on_line; inside_is = own.closed }) in
     subst (λ q. All (λ name. Uncut 10 q false name false) (names_in table.names.bytes.items table.names.spans.items))
     (sym holds.counts)
     (subst (λ l. All (λ name. Uncut 10 quotes false name false) l) (sym holds.named) uncut)

@@ -1,5 +1,5 @@
 -- How the counts of areas answer a list, and that they add up.
-use Rattle.std.proofs.Common.{◌≡◌, ℕ, zero, suc, ◌+◌, ◌<◌, Bool, List, [], ◌∷◌, ◌++◌, All, Contains, get_or, length, map, replicate, sum, if◌then◌else◌, Option, None, Some, Result, option_map, unwrap_or, codes, string_bytes, sym, ap, ◌∙◌, refl, subst, arith, inl}
+use Rattle.std.proofs.Common.{◌≡◌, ℕ, zero, suc, ◌<◌, Bool, List, [], ◌∷◌, ◌++◌, All, Contains, get_or, length, map, replicate, sum, if◌then◌else◌, Option, None, Some, Result, option_map, unwrap_or, codes, string_bytes, sym, ap, ◌∙◌, refl, subst, arith, inl}
 use Rattle.std.proofs.Math.Path.{fun_ext}
 use Rattle.std.proofs.lemmas.List.{get_or-replicate, length-map, length-replicate}
 use Rattle.std.proofs.lemmas.List.Elements.{All-contains}
@@ -14,7 +14,6 @@ use Rattle.h3_lines.specs.declared.run_error.RunError.{RunError}
 use Rattle.h3_regions.specs.AreaCounting.{AreAreaCounts, count_in_area, count_in_none}
 use Rattle.h3_regions.specs.AreaLaws.{AlikeAreas, AreaCountsAddUp, ClashesAreFound}
 use Rattle.h3_regions.specs.Areas.{AreAlike}
-use Rattle.h3_regions.specs.Refusals.{areas_refusal}
 use Rattle.h3_requests.specs.declared.rows.AreaOptions.{AreaOptions}
 use Rattle.h3_requests.specs.declared.rows.RowOptions.{RowOptions}
 use Rattle.h3_rows.specs.Areas.{NumbersAreOfNames, area_cells, area_names, names_in, span_in}
@@ -22,6 +21,7 @@ use Rattle.h3_rows.specs.Named.{Entry}
 use Rattle.h3_rows.specs.declared.areas.AreaTable.{AreaTable}
 use Rattle.h3_command.specs.AreaCounts.{AreaCountsPrintedAddUp, area_count, area_counts, area_counts_answer, counts_table, has_header}
 use Rattle.h3_command.specs.AreaTable.{EndsJudged, HoldsAreas}
+use Rattle.h3_command.specs.Areas.{overlap_error}
 use Rattle.h3_command.specs.AreaTally.{named_counts}
 use Rattle.h3_command.specs.Rows.{list_form}
 use Rattle.h3_command.specs.Run.{EndsNumberedList}
@@ -57,7 +57,8 @@ counts_named names none areas cells counts others long h =
     let f : ℕ → List ℕ × ℕ = λ k. (get_or names k [], get_or counts k 0) in
     let g : ℕ → List ℕ × ℕ = area_count names areas cells in
     let same : (k : ℕ) → k < length counts → f k ≡ g k =
-    λ k lt. ap (λ n. (get_or names k [], n)) (ap (λ l. get_or l k 0) h.each ∙ get_or-map-range_with_len (count_in_area areas cells) 0 (length counts) k k 0 lt (omega arith)) in
+    λ k lt. ap (λ n. (get_or names k [], n)) (ap (λ l. get_or l k 0) h.each
+    ∙ get_or-map-range_with_len (count_in_area areas cells) 0 (length counts) k k 0 lt (omega arith)) in
     ap (λ l. l ++ (none, others) ∷ []) (alike_below f g (length counts) same)
     ∙ ap (λ n. map g (range_with_len 0 n) ++ (none, others) ∷ []) long
     ∙ ap (λ n. map g (range_with_len 0 (length names)) ++ (none, n) ∷ []) h.others
@@ -93,12 +94,12 @@ pub ends_counted : AlikeAreas
     → (options : AreaOptions) (list : Option RowOptions) (entries : List Entry) (table : AreaTable)
     (areas : List (Address × ℕ)) (title : List ℕ)
     (input : SourceUse) (ending : Result (Unit {0}) RunError) (out : SinkUse)
-    → HoldsAreas options.table.rows.quotes entries table → areas_refusal table.cells.items ≡ None
+    → HoldsAreas options.table.rows.quotes entries table → overlap_error options.overlapping table.cells.items ≡ None
     → AreAlike areas table.cells.items → title ≡ unwrap_or (option_map (λ t. t.items) table.title) (codes "zone")
     → EndsNumberedList (list_form list) (λ cells. written (counts_table options.table.rows.separator (if has_header
     options list then Some title else None) (area_counts (string_bytes options.none)
     (names_in table.names.bytes.items table.names.spans.items) areas cells))) input ending out
-    → EndsJudged (areas_refusal (area_cells options.table.rows.quotes entries))
+    → EndsJudged (overlap_error options.overlapping (area_cells options.table.rows.quotes entries))
     (EndsNumberedList (list_form list) (area_counts_answer options list entries) input ending out) input ending out
 ends_counted law options list entries table areas title input ending out holds free alike titled ends =
     let none = string_bytes options.none in
@@ -107,14 +108,17 @@ ends_counted law options list entries table areas title input ending out holds f
     let named = names_in table.names.bytes.items table.names.spans.items in
     let header : List ℕ → Option (List ℕ) = λ t. if has_header options list then Some t else None in
     let title_is = titled ∙ ap (λ t. unwrap_or t (codes "zone")) holds.title in
-    let at : (cells : List Address) → written (counts_table separator (header title) (area_counts none named areas cells)) ≡ area_counts_answer options list entries cells =
+    let at : (cells : List Address) → written
+    (counts_table separator (header title) (area_counts none named areas cells))
+    ≡ area_counts_answer options list entries cells =
     λ cells. ap (λ r. written (counts_table separator (header title) r))
     (alike_counts law none named areas table.cells.items cells alike
     ∙ ap (λ l. area_counts none named l cells) holds.cells
     ∙ ap (λ l. area_counts none l (area_cells quotes entries) cells) holds.named)
-    ∙ ap (λ t. written (counts_table separator (header t) (area_counts none (area_names quotes entries) (area_cells quotes entries) cells))) title_is in
+    ∙ ap (λ t. written (counts_table separator (header t)
+    (area_counts none (area_names quotes entries) (area_cells quotes entries) cells))) title_is in
     inl (
-      ap areas_refusal (sym holds.cells) ∙ free,
+      ap (overlap_error options.overlapping) (sym holds.cells) ∙ free,
       subst (λ about. EndsNumberedList (list_form list) about input ending out) (fun_ext at) ends,
     )
 

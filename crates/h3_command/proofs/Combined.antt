@@ -12,7 +12,7 @@ use Rattle.h3_regions.specs.Zones.{by_number, zone_of}
 use Rattle.h3_lines.specs.Answer.{count_line, printed, truth_line, written, zone_line}
 use Rattle.h3_command.specs.Combination.{region_answer}
 use Rattle.h3_command.specs.Files.{counts_answer, zone_answer, zone_counts}
-use Rattle.std.specs.Prelude.{Ok, None, not, count_by, ◌++◌}
+use Rattle.std.specs.Prelude.{Result, Ok, Err, IfOk, None, not, count_by, ◌++◌}
 use Rattle.std.specs.List.{flat_map}
 use Rattle.h3_regions.specs.Counting.{count_outside}
 
@@ -48,6 +48,13 @@ left_compacts law a b first second list va vb vl alike_a alike_b covers =
       (λ h. let w = (covers x).0 h in ((alike_a x).0 w.0, (λ q. w.1 ((alike_b x).1 q)))),
       (λ (p, not). (covers x).1 ((alike_a x).1 p, (λ q. not ((alike_b x).0 q)))),
     ))
+
+-- a value of which two facts hold
+pub ok_by_both : {T E : Type 0} (r : Result T E) (P Q S : T → Type 0) → ((x : T) → P x → Q x → S x) → IfOk r P
+    → IfOk r Q
+    → IfOk r S
+ok_by_both (Ok x) P Q S both p q = both x p q
+ok_by_both (Err e) P Q S both p q = p
 
 -- ---- counts
 

@@ -112,7 +112,11 @@ each_is_a_zone (suc passes) zones =
     (each_is_a_zone passes zones)
 
 same_number : (a b : ℕ) → (a == b) ≡ true → a ≡ b
-same_number a b t = elim (eqb_tells a b) [ inl same ↦ same.1 | inr other ↦ let never : true ≡ false = sym t ∙ other.0 in absurd (cc) ]
+same_number a b t = elim (eqb_tells a b) [
+  | inl same ↦ same.1
+  | inr other ↦ let never : true ≡ false =
+      sym t ∙ other.0 in absurd (cc)
+]
 
 of_one_resolution : (r : ℕ) (zones : List Address) → All (λ z. resolution z ≡ r) (filter (λ z. resolution z == r) zones)
 of_one_resolution r zones =
@@ -211,11 +215,13 @@ module _ (intervals : CellsFormIntervals) (zones : List Address) (are : IsZones 
       (λ k d lt i e lti.
       let here : resolution (get_or first k d) ≡ 16 - suc passes = own k d lt in
       let there : 16 - passes ≤ resolution (get_or later i e) = finer i e lti in
-      finer_is_later (get_or first k d) (get_or later i e) (valid k d lt) (later_valid i e lti) (omega (arith, here, there, le)))
+      finer_is_later (get_or first k d) (get_or later i e) (valid k d lt) (later_valid i e lti)
+      (omega (arith, here, there, le)))
 
   pub zones_by_number : ZonesByNumber → coarsest_first 16 zones ≡ by_number zones
   zones_by_number law =
       law zones (coarsest_first 16 zones) are.valid (passes_ascend 16 (omega arith)) (λ z. (
-        (λ m. let valid : IsCell z = All-contains IsCell zones z are.valid m in each_zone_has_a_pass 16 zones z m (omega arith) (omega (arith, valid.coarse))),
+        (λ m. let valid : IsCell z = All-contains IsCell zones z are.valid m in
+            each_zone_has_a_pass 16 zones z m (omega arith) (omega (arith, valid.coarse))),
         (λ m. All-contains (Contains zones) (coarsest_first 16 zones) z (each_is_a_zone 16 zones) m),
       ))

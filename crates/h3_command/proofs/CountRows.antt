@@ -97,8 +97,10 @@ module _ {S : Type 0} (taken : S → Option (List ℕ)) (failed : S → Bool) wh
       rows_more separator names counts n in
       let all : flat_map (count_row separator) (named_counts names counts size) ≡ (rows ++ one) ++ later =
       rows_split separator names counts size (n + 1) (omega (arith, lt)) ∙ ap (λ l. l ++ later) next in
-      let whole : ((start ++ rows) ++ one) ++ later ≡ start ++ flat_map (count_row separator) (named_counts names counts size) =
-      ap (λ l. l ++ later) (append_assoc start rows one) ∙ append_assoc start (rows ++ one) later ∙ ap (λ l. start ++ l) (sym all) in
+      let whole : ((start ++ rows) ++ one) ++ later ≡ start
+      ++ flat_map (count_row separator) (named_counts names counts size) =
+      ap (λ l. l ++ later) (append_assoc start rows one) ∙ append_assoc start (rows ++ one) later
+      ∙ ap (λ l. start ++ l) (sym all) in
       subst (λ l. FailsPush l (sink_use taken failed s u)) whole
       (push_more ((start ++ rows) ++ one) later (sink_use taken failed s u)
       (push_then taken failed (start ++ rows) held one s t u so_far fails))

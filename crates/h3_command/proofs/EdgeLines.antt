@@ -26,7 +26,8 @@ one_more p x xs false is h = rw is (omega (arith, h))
 
 filter_shorter : (p : ℕ → Bool) (xs : List ℕ) → length (filter p xs) ≤ length xs
 filter_shorter p [] = omega arith
-filter_shorter p (x ∷ xs) = let more : length (filter p (x ∷ xs)) ≤ length xs + 1 = one_more p x xs (p x) refl (filter_shorter p xs) in omega (arith, more)
+filter_shorter p (x ∷ xs) = let more : length (filter p (x ∷ xs)) ≤ length xs + 1 =
+    one_more p x xs (p x) refl (filter_shorter p xs) in omega (arith, more)
 
 six : (c : Address) → length (edges_from c) ≤ 6
 unfolding edges_from

@@ -55,12 +55,26 @@ found : (p : List ℕ → Bool) (names : List (List ℕ)) (from place : ℕ) →
     → Found p names from place
 found p [] from place is = absurd (cc)
 found p (name ∷ names) from place is =
-    let either : (t : Bool) → p name ≡ t → cond t (Some from) (position_from p (from + 1) names) ≡ Some place → Found p (name ∷ names) from place =
-    λ t. elim t as (λ t. p name ≡ t → cond t (Some from) (position_from p (from + 1) names) ≡ Some place → Found p (name ∷ names) from place) [
-      | true ↦ λ yes here. (let same = same_Some from place here in record { at = zero; is = omega (arith, same); within = omega arith; holds = yes })
+    let either : (t : Bool) → p name ≡ t → cond t (Some from) (position_from p (from + 1) names) ≡ Some place
+    → Found p (name ∷ names) from place =
+    λ t. elim t as (λ t. p name ≡ t → cond t (Some from) (position_from p (from + 1) names) ≡ Some place
+    → Found p (name ∷ names) from place) [
+      | true ↦ λ yes here. (let same = same_Some from place here in record {
+        at = zero;
+        is =
+            omega (arith, same);
+        within = omega arith;
+        holds = yes;
+      })
       | false ↦ λ no later. (
           let more = found p names (from + 1) place later in
-          record { at = suc more.at; is = omega (arith, more.is); within = omega (arith, more.within); holds = more.holds })
+          record {
+            at = suc more.at;
+            is = omega (arith, more.is);
+            within = omega (arith, more.within);
+            holds =
+                more.holds;
+          })
     ] in
     either (p name) refl is
 
@@ -82,8 +96,10 @@ placed quotes text names k is =
 -- areas that are not refused are apart
 pub not_refused : ClashesAreFound → (areas : List (Address × ℕ)) → areas_refusal areas ≡ None → AreApart areas
 not_refused clashes areas none =
-    let either : (t : Bool) → has_clash areas ≡ t → (if t then Some DuplicateInput else None) ≡ None → has_clash areas ≡ false =
-    λ t. elim t as (λ t. has_clash areas ≡ t → (if t then Some DuplicateInput else None) ≡ None → has_clash areas ≡ false) [ true ↦ λ is never. absurd (cc) | false ↦ λ is free. is ] in
+    let either : (t : Bool) → has_clash areas ≡ t → (if t then Some DuplicateInput else None) ≡ None → has_clash areas
+    ≡ false =
+    λ t. elim t as (λ t. has_clash areas ≡ t → (if t then Some DuplicateInput else None) ≡ None → has_clash areas
+    ≡ false) [ true ↦ λ is never. absurd (cc) | false ↦ λ is free. is ] in
     (clashes areas).0 (either (has_clash areas) refl none)
 
 -- ---- the names of its areas
@@ -184,14 +200,16 @@ names_differ listed numbers once quotes none entries x fine =
     let name : ℕ → List ℕ = λ k. get_or names k [] in
     let own : (k : ℕ) → Contains list k → place_of quotes (name_text quotes (name k)) names ≡ Some k = λ k inside.
     (let lies = (are.each k).0 inside in
-    once quotes entries k [] (All-contains (λ p. p.1 < length names) areas (lies.by, k) (numbers quotes entries) lies.member)) in
+    once quotes entries k [] (All-contains (λ p. p.1 < length names) areas (lies.by, k) (numbers quotes entries)
+    lies.member)) in
     differ_or none names (λ a b. name_text quotes a ≢ name_text quotes b) list (λ i j d less short same.
     let low : j < length list = omega (arith, short, length-map list name) in
     let first : i < length list = omega (arith, less, low) in
     let m = get_or list i 0 in
     let n = get_or list j 0 in
     let text : name_text quotes (name m) ≡ name_text quotes (name n) =
-    ap (name_text quotes) (sym (get_or-map name list i 0 d first)) ∙ same ∙ ap (name_text quotes) (get_or-map name list j 0 d low) in
+    ap (name_text quotes) (sym (get_or-map name list i 0 d first)) ∙ same
+    ∙ ap (name_text quotes) (get_or-map name list j 0 d low) in
     let equal : Some m ≡ Some n =
     sym (own m (Contains-get_or list i 0 first)) ∙ ap (λ t. place_of quotes t names) text
     ∙ own n (Contains-get_or list j 0 low) in

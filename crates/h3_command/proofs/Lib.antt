@@ -5,6 +5,7 @@ pub mod AreasRead
 pub mod Combined
 pub mod CountPasses
 pub mod CountRows
+pub mod CuttingLists
 pub mod Dividing
 pub mod EdgeLines
 pub mod Endings
@@ -14,11 +15,14 @@ pub mod ListTexts
 pub mod ListedCells
 pub mod MakingLists
 pub mod NewColumns
+pub mod OverlapCounts
 pub mod PrintedCounts
 pub mod PrintedSums
 pub mod RowsPut
+pub mod RunEndings
 pub mod SiblingGroups
 pub mod SummedAreas
+pub mod SummedZones
 pub mod Summing
 pub mod ValueRows
 pub mod WholeWalks

@@ -61,14 +61,16 @@ module _ {S : Type 0} (taken : S → Option (List ℕ)) (failed : S → Bool) (f
       let all : flat_map f (range_with_len 0 size) ≡ (done ++ f n) ++ later =
       text_split f size (n + 1) (omega (arith, lt)) ∙ ap (λ l. l ++ later) (text_more f n) in
       let whole : ((start ++ done) ++ f n) ++ later ≡ start ++ flat_map f (range_with_len 0 size) =
-      ap (λ l. l ++ later) (append_assoc start done (f n)) ∙ append_assoc start (done ++ f n) later ∙ ap (λ l. start ++ l) (sym all) in
+      ap (λ l. l ++ later) (append_assoc start done (f n)) ∙ append_assoc start (done ++ f n) later
+      ∙ ap (λ l. start ++ l) (sym all) in
       subst (λ l. FailsPush l (sink_use taken failed s u)) whole
       (push_more ((start ++ done) ++ f n) later (sink_use taken failed s u)
       (push_then taken failed (start ++ done) held (f n) s t u so_far fails))
 
 -- ---- the lists of values
 
-module _ (separator : ℕ) (function : List Address → Result (List Address) H3Error) (names : List (List ℕ)) (rows : List ℕ)
+module _ (separator : ℕ) (function : List Address → Result (List Address) H3Error) (names : List (List ℕ))
+    (rows : List ℕ)
     (pairs : List (Address × ℕ)) (size : ℕ) where
   -- all are made
   pub lists_made : (lists : ℕ → List Address) → ((n : ℕ) → n < size → function (cells_of pairs n) ≡ Ok (lists n))

@@ -12,7 +12,8 @@ use Rattle.h3_regions.specs.Areas.{cells_of}
 
 -- the lists of the first k parts are made
 pub record IsMaking (list_of : List Address → Result (List Address) H3Error) (listed : List Address → List Address)
-    (ready : List Address → Type 0) (old : List Address) (begun : List (ℕ × ℕ)) (cells : List Address) (parts : List (ℕ × ℕ)) (k : ℕ) : Type 0 where
+    (ready : List Address → Type 0) (old : List Address) (begun : List (ℕ × ℕ)) (cells : List Address)
+    (parts : List (ℕ × ℕ)) (k : ℕ) : Type 0 where
   pub all : length cells ≡ length old
   pub apart : AreApart (length begun) (length cells) parts
   pub made : (n : ℕ) → n < k
@@ -34,7 +35,7 @@ part_below xs ys a e p below order room =
     sym (drop-take p.0 (p.1 - p.0) (put_mid a (e - a) xs ys)) ∙ ap (drop p.0) same ∙ drop-take p.0 (p.1 - p.0) xs
 
 -- what is after it
-part_above : (xs ys : List Address) (a e : ℕ) (p : ℕ × ℕ) → e ≤ p.0 → a ≤ e → a ≤ length xs → length ys ≡ e - a
+pub part_above : (xs ys : List Address) (a e : ℕ) (p : ℕ × ℕ) → e ≤ p.0 → a ≤ e → a ≤ length xs → length ys ≡ e - a
     → part_of (put_mid a (e - a) xs ys) p ≡ part_of xs p
 part_above xs ys a e p above order room same =
     ap (take (p.1 - p.0)) (drop-put_mid a (e - a) xs ys p.0 (omega (arith, above, order)) room same)
@@ -51,7 +52,8 @@ part_own xs ys a e n room fewer =
     drop_at (take a xs) (ys ++ rest) a (length-take-le a xs room) in
     ap (λ m. take m (drop a (put_mid a (e - a) xs ys))) f ∙ ap (take n) here ∙ take-append-le n ys rest fewer
 
-module _ (list_of : List Address → Result (List Address) H3Error) (listed : List Address → List Address) (ready : List Address → Type 0)
+module _ (list_of : List Address → Result (List Address) H3Error) (listed : List Address → List Address)
+    (ready : List Address → Type 0)
     (old : List Address) (begun : List (ℕ × ℕ)) where
   pub making_begins : AreApart (length begun) (length old) begun → IsMaking list_of listed ready old begun old begun 0
   making_begins apart = record {
@@ -85,13 +87,26 @@ module _ (list_of : List Address → Result (List Address) H3Error) (listed : Li
         let room : a ≤ length cells = omega (arith, order, within) in
         let there : k < length parts = omega (arith, lt, inv.apart.size_is) in
         let size : length new ≡ length cells =
-        omega (arith, length-append (take a cells) (own ++ drop (e - a) (drop a cells)), length-append own (drop (e - a) (drop a cells)), length-take-le a cells room, length-drop (e - a) (drop a cells), length-drop a cells, long, order, within) in
+        omega (
+          arith,
+          length-append (take a cells) (own ++ drop (e - a) (drop a cells)),
+          length-append own
+              (drop (e - a) (drop a cells)),
+          length-take-le a cells room,
+          length-drop (e - a) (drop a cells),
+          length-drop
+              a cells,
+          long,
+          order,
+          within,
+        ) in
         let at_k : get_or (set parts k more) k (0, 0) ≡ more = get_or-set_same parts k more (0, 0) there in
         let other : (n : ℕ) → n ≢ k → get_or (set parts k more) n (0, 0) ≡ get_or parts n (0, 0) =
         λ n ne. get_or-set_other parts k n more (0, 0) ne in
         let own_part : part_of new more ≡ take count own = part_own cells own a e count room fewer in
         let below : (n : ℕ) → n < k → part_of new (get_or parts n (0, 0)) ≡ part_of cells (get_or parts n (0, 0)) =
-        λ n ln. part_below cells own a e (get_or parts n (0, 0)) (inv.apart.apart n k ln lt) (inv.apart.ordered n (omega (arith, ln, lt))) room in
+        λ n ln. part_below cells own a e (get_or parts n (0, 0)) (inv.apart.apart n k ln lt)
+        (inv.apart.ordered n (omega (arith, ln, lt))) room in
         record {
           all = size ∙ inv.all;
           apart = record {

@@ -31,7 +31,7 @@ use Rattle.h3_requests.specs.declared.command.IndexFunction.{IndexFunction}
 use Rattle.h3_requests.specs.declared.command.Command.TheVariants as command
 use Rattle.h3_rows.specs.Laws.{FieldsAreKept, PairsAreKept}
 use Rattle.h3_lines.specs.Pieces.{Piece, Uncut, cut, inside_after, is_uncut, turned, with_first}
-use Rattle.h3_rows.specs.RowsAnswer.{each_with, row_with}
+use Rattle.h3_rows.specs.RowsAnswer.{Form, each_with, row_with}
 use Rattle.h3_index.specs.Text.{is_blank, text_of, without_leading_blanks, without_leading_zeros}
 use Rattle.h3_requests.specs.declared.rows.RowOptions.{RowOptions}
 use Rattle.h3_rows.specs.Areas.{EntriesAreFields, IsOneField, NamesAreFields, area_cells, area_names, title_after, title_with}
@@ -43,14 +43,15 @@ use Rattle.h3_requests.specs.declared.rows.AreaOptions.{AreaOptions}
 use Rattle.h3_requests.specs.declared.rows.CellField.{CellField}
 use Rattle.h3_requests.specs.declared.rows.Tables.{Tables}
 use Rattle.h3_lines.specs.declared.run_error.AnswerError.{AnswerError}
-use Rattle.h3_command.specs.Answer.{Request, answer_for, area_counts_request, by_request, counts_request, shown, summed, with_table, zones_request}
+use Rattle.h3_command.specs.Answer.{Request, answer_for, area_counts_request, by_region_request, by_request, counts_request, shown, summed, with_table, zone_counts_request, zones_request}
 use Rattle.h3_command.specs.Answer.Request.{of_list, of_numbered_list}
 use Rattle.h3_command.specs.Areas.{area_answer, areas_of_file, entries_of_table, judged_areas, name_lines, names_or, overlap_error, unless_overlapping}
 use Rattle.h3_command.specs.Files.{cell_to_zone, is_covered_cell}
 use Rattle.h3_command.specs.Required.{cell_given, edge_given, index_given}
 use Rattle.h3_command.specs.LongAnswers.{between_parts, whole_walk}
 use Rattle.h3_command.specs.NewColumns.{AnswersAreWords, AnswersBy, AreAnswerLines, AreLinesOf, ErrorNamesAreFields, ErrorNamesAreKept, IsField, IsPairOfWords, IsWord, IsZoneLine, NamesAreKept, RowsStandOnce, TitlesAreFields, WordPairsAreKept, WordPairsAreUncut, WordsAreFields, WordsAreKept, is_lower_or_digit, is_plain}
-use Rattle.h3_command.specs.Rows.{list_form}
+use Rattle.h3_command.specs.Rows.{file_form, list_form}
+use Rattle.h3_regions.specs.Algebra.{difference, intersection}
 use Rattle.h3_command.specs.TableLists.{destination_of}
 
 -- ---- words
@@ -69,8 +70,11 @@ onto_is zero n acc rest = rest
 onto_is (suc k) n acc rest =
     let more : IsWord (digit_glyph false (n % 10) ∷ acc) =
     more_words (digit_glyph false (n % 10)) acc (glyph_is (n % 10) (mod_below n 10 (omega arith))) rest in
-    let either : (t : Bool) → IsWord (if t then digit_glyph false (n % 10) ∷ acc else digits_onto k 10 false (n / 10) (digit_glyph false (n % 10) ∷ acc)) =
-    λ t. elim t as (λ t. IsWord (if t then digit_glyph false (n % 10) ∷ acc else digits_onto k 10 false (n / 10) (digit_glyph false (n % 10) ∷ acc))) [ true ↦ more | false ↦ onto_is k (n / 10) (digit_glyph false (n % 10) ∷ acc) more ] in
+    let either : (t : Bool) → IsWord (if t then digit_glyph false (n % 10)
+    ∷ acc else digits_onto k 10 false (n / 10) (digit_glyph false (n % 10) ∷ acc)) =
+    λ t. elim t as (λ t. IsWord (if t then digit_glyph false (n % 10)
+    ∷ acc else digits_onto k 10 false (n / 10) (digit_glyph false (n % 10) ∷ acc)))
+    [ true ↦ more | false ↦ onto_is k (n / 10) (digit_glyph false (n % 10) ∷ acc) more ] in
     either (n / 10 == 0)
 
 decimal_is : (n : ℕ) → IsWord (decimal n)
@@ -90,7 +94,8 @@ leading_are p (d ∷ ds) first all =
     let split : (x y : Bool) → (x && y) ≡ true → y ≡ true =
     λ x y. elim x as (λ x. (x && y) ≡ true → y ≡ true) [ true ↦ λ h. h | false ↦ λ h. absurd (cc) ] in
     let either : (t : Bool) → list_all p (if t then without_leading_zeros ds else d ∷ ds) ≡ true =
-    λ t. elim t as (λ t. list_all p (if t then without_leading_zeros ds else d ∷ ds) ≡ true) [ true ↦ leading_are p ds first (split (p d) (list_all p ds) all) | false ↦ all ] in
+    λ t. elim t as (λ t. list_all p (if t then without_leading_zeros ds else d ∷ ds) ≡ true)
+    [ true ↦ leading_are p ds first (split (p d) (list_all p ds) all) | false ↦ all ] in
     either (d == 0)
 
 text_is : (n : ℕ) → IsWord (text_of n)
@@ -370,7 +375,10 @@ are_fields : (separator : ℕ) (quotes : Bool) (names : List (List ℕ)) (number
     → All (IsField separator quotes) names → All (IsField separator quotes) (map (λ n. get_or names n []) numbers)
 are_fields separator quotes names [] fields = All-nil (IsField separator quotes)
 are_fields separator quotes names (n ∷ ns) fields =
-    All-cons (IsField separator quotes) (get_or names n []) (map (λ n. get_or names n []) ns) (any_name (IsField separator quotes) names n fields (record { in_row = refl; in_line = refl; returnless = λ counts. refl; closed = refl; sound = λ counts. refl })) (are_fields separator quotes names ns fields)
+    All-cons (IsField separator quotes) (get_or names n []) (map (λ n. get_or names n []) ns)
+    (any_name (IsField separator quotes) names n fields
+    (record { in_row = refl; in_line = refl; returnless = λ counts. refl; closed = refl; sound = λ counts. refl }))
+    (are_fields separator quotes names ns fields)
 
 lines_of_names : (separator : ℕ) (quotes : Bool) (none : List ℕ) (names : List (List ℕ)) (numbers : List ℕ)
     → IsField separator quotes none → All (IsField separator quotes) names
@@ -435,7 +443,8 @@ pads_none [] none = refl
 pads_none (b ∷ bs) none =
     let (first, more) = both (not (b == 34)) (list_all (λ b. not (b == 34)) bs) none in
     let either : (t : Bool) → (get_or (if t then without_leading_blanks bs else b ∷ bs) 0 0 == 34) ≡ false =
-    λ t. elim t as (λ t. (get_or (if t then without_leading_blanks bs else b ∷ bs) 0 0 == 34) ≡ false) [ true ↦ pads_none bs more | false ↦ flip (b == 34) first ] in
+    λ t. elim t as (λ t. (get_or (if t then without_leading_blanks bs else b ∷ bs) 0 0 == 34) ≡ false)
+    [ true ↦ pads_none bs more | false ↦ flip (b == 34) first ] in
     either (is_blank b)
 
 and_false : (x : Bool) → (x && false) ≡ false
@@ -512,10 +521,15 @@ no_lines_summed : (Is : Answer → Type 0) (areas : AreaOptions) (list : Option 
 no_lines_summed Is areas list None = tt
 no_lines_summed Is areas list (Some sum) = tt
 
+no_lines_of_zones : (Is : Answer → Type 0) (tables : Tables) (sum : Option (RowOptions × CellField))
+    → AnswersBy Is (zone_counts_request tables sum)
+no_lines_of_zones Is tables None = tt
+no_lines_of_zones Is tables (Some sum) = tt
+
 -- counts are no answer line by line
 no_lines_counted : (Is : Answer → Type 0) (tables : Tables) (areas : Option AreaOptions)
     → AnswersBy Is (counts_request tables areas)
-no_lines_counted Is tables None = tt
+no_lines_counted Is tables None = no_lines_of_zones Is tables (summed tables.list tables.sum)
 no_lines_counted Is tables (Some areas) = no_lines_summed Is areas tables.list (summed tables.list tables.sum)
 
 -- nor are lists by the values of a field
@@ -525,6 +539,14 @@ no_lines_by : (Is : Answer → Type 0) (by : Option CellField) (list : Option Ro
 no_lines_by Is None list function whole h = h
 no_lines_by Is (Some field) None function whole h = h
 no_lines_by Is (Some field) (Some rows) function whole h = tt
+
+-- nor are these cut by a region
+no_lines_by_region : (Is : Answer → Type 0) (by : Option CellField) (list : Option RowOptions) (file : Option Form)
+    (function : List Address → List Address → List Address)
+    → AnswersBy Is (by_region_request by list file function)
+no_lines_by_region Is None list file function = tt
+no_lines_by_region Is (Some field) None file function = tt
+no_lines_by_region Is (Some field) (Some rows) file function = tt
 
 pub answers_are_words : NamesAreFields → AnswersAreWords
 answers_are_words names tables command.CompactCells =
@@ -536,6 +558,12 @@ answers_are_words names tables (command.UncompactCells res) =
 answers_are_words names tables command.UniteCells =
     no_lines_by (AreAnswerLines IsWord) tables.by tables.list (λ cells. Ok (compacted cells))
     (of_numbered_list (list_form tables.list) (λ cells. written (cell_lines (compacted cells)))) tt
+answers_are_words names tables command.IntersectCells =
+    no_lines_by_region (AreAnswerLines IsWord) tables.by tables.list (file_form tables)
+    (λ region cells. intersection cells region)
+answers_are_words names tables command.SubtractCells =
+    no_lines_by_region (AreAnswerLines IsWord) tables.by tables.list (file_form tables)
+    (λ region cells. difference cells region)
 answers_are_words names tables command.AreCoveredCells =
     λ cells index. printed_lines IsWord truth_line (is_covered_cell (compacted cells) index) truth_lines
 answers_are_words names tables command.CountCellsInZones = no_lines_counted (AreAnswerLines IsWord) tables tables.areas
@@ -587,7 +615,8 @@ title_after_is P title other [] own last all = own
 title_after_is P title other (e ∷ es) own last all =
     let first : P e.field = All-head (λ e. P e.field) e es all in
     let either : (cell : Option Address) → P (unwrap_or (title_with title cell e.field) other) =
-    λ cell. elim cell as (λ cell. P (unwrap_or (title_with title cell e.field) other)) [ None ↦ first | Some c ↦ own ] in
+    λ cell. elim cell as (λ cell. P (unwrap_or (title_with title cell e.field) other)) [ None ↦ first | Some c ↦ own ]
+    in
     title_after_is P (title_with title e.cell e.field) other es (either e.cell) last
     (All-tail (λ e. P e.field) e es all)
 
@@ -744,7 +773,11 @@ rows_stand_once separator quotes after row (line ∷ lines) all =
     let (p, more, is) = some_piece quotes false rest in
     let own = All-head (λ line. Uncut 10 quotes false line false) line lines all in
     let first : cut 10 quotes false ((line ++ 10 ∷ []) ++ rest) ≡ (line, false) ∷ (p ∷ more) =
-    ap (cut 10 quotes false) (append_assoc line (10 ∷ []) rest) ∙ cut_line quotes false line rest own.uncut own.inside_is ∙ ap (λ ps. (line, false) ∷ ps) is in
-    let later : each_with separator after row (p ∷ more) ≡ flat_map (λ line. row_with separator row (line ++ after)) lines =
-    ap (each_with separator after row) (sym is) ∙ rows_stand_once separator quotes after row lines (All-tail (λ line. Uncut 10 quotes false line false) line lines all) in
+    ap (cut 10 quotes false) (append_assoc line (10 ∷ []) rest)
+    ∙ cut_line quotes false line rest own.uncut own.inside_is ∙ ap (λ ps. (line, false) ∷ ps) is in
+    let later : each_with separator after row (p ∷ more)
+    ≡ flat_map (λ line. row_with separator row (line ++ after)) lines =
+    ap (each_with separator after row) (sym is)
+    ∙ rows_stand_once separator quotes after row lines
+    (All-tail (λ line. Uncut 10 quotes false line false) line lines all) in
     ap (each_with separator after row) first ∙ ap (λ l. row_with separator row (line ++ after) ++ l) later

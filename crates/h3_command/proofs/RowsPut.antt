@@ -39,7 +39,8 @@ module _ {X : Type 0} (line : X → List ℕ) (row : ℕ → X) where
       ∙ flat_map-append line (take k all) (drop k all)
       ∙ ap (λ l. flat_map line l ++ flat_map line (drop k all)) first
 
-  module _ {S : Type 0} (taken : S → Option (List ℕ)) (failed : S → Bool) (start : List ℕ) (n : ℕ) (held : List ℕ) (s t u : S)
+  module _ {S : Type 0} (taken : S → Option (List ℕ)) (failed : S → Bool) (start : List ℕ) (n : ℕ) (held : List ℕ)
+      (s t u : S)
       (so_far : Moves taken failed (start ++ flat_map line (map row (range_with_len 0 n))) held s t) where
     -- one row more is put
     pub line_put : (held' : List ℕ) → Moves taken failed (held ++ line (row n)) held' t u
@@ -60,7 +61,8 @@ module _ {X : Type 0} (line : X → List ℕ) (row : ℕ → X) where
         let all : flat_map line (map row (range_with_len 0 size)) ≡ (rows ++ one) ++ later =
         lines_split size (n + 1) (omega (arith, lt)) ∙ ap (λ l. l ++ later) (lines_more n) in
         let whole : ((start ++ rows) ++ one) ++ later ≡ start ++ flat_map line (map row (range_with_len 0 size)) =
-        ap (λ l. l ++ later) (append_assoc start rows one) ∙ append_assoc start (rows ++ one) later ∙ ap (λ l. start ++ l) (sym all) in
+        ap (λ l. l ++ later) (append_assoc start rows one) ∙ append_assoc start (rows ++ one) later
+        ∙ ap (λ l. start ++ l) (sym all) in
         subst (λ l. FailsPush l (sink_use taken failed s u)) whole
         (push_more ((start ++ rows) ++ one) later (sink_use taken failed s u)
         (push_then taken failed (start ++ rows) held one s t u so_far fails))

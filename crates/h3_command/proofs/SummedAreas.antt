@@ -60,7 +60,8 @@ sums_named names none areas amounts sums others long h =
     get_or-map value_of sums k others (0, pos 0) lt in
     ap (λ (v : ℕ × ℤ). record { name = get_or names k []; count = v.0; units = v.1 }) value
     ∙ ap (λ n. record { name = get_or names k []; count = n; units = sum_units (get_or sums k others) }) each.count
-    ∙ ap (λ u. record { name = get_or names k []; count = count_in_area areas (cells_in amounts) k; units = u }) each.units in
+    ∙ ap (λ u. record { name = get_or names k []; count = count_in_area areas (cells_in amounts) k; units = u })
+    each.units in
     let last : row_of none others ≡ none_sum none areas amounts =
     ap (λ n. record { name = none; count = n; units = sum_units others }) h.others.count
     ∙ ap (λ u. record { name = none; count = count_in_none areas (cells_in amounts); units = u }) h.others.units in
@@ -95,9 +96,19 @@ module _ (tested : AreasAreTested) (areas others : List (Address × ℕ)) (alike
       let test : (n : ℕ) → (λ x. lies_in areas x n) ≡ (λ x. lies_in others x n) = λ n. fun_ext (λ x. same_in x n) in
       let out : is_outside areas ≡ is_outside others = fun_ext (λ x. ap not (same_covered x)) in
       let row : (k : ℕ) → k < length names → area_sum names areas amounts k ≡ area_sum names others amounts k =
-      λ k lt. ap (λ (t : Address → Bool). record { name = get_or names k []; count = count_by t (cells_in amounts); units = sum_where t amounts }) (test k) in
+      λ k lt. ap (λ (t : Address → Bool). record {
+        name = get_or names k [];
+        count =
+            count_by t (cells_in amounts);
+        units = sum_where t amounts;
+      }) (test k) in
       let last : none_sum none areas amounts ≡ none_sum none others amounts =
-      ap (λ (t : Address → Bool). record { name = none; count = count_by t (cells_in amounts); units = sum_where t amounts }) out in
+      ap (λ (t : Address → Bool). record {
+        name = none;
+        count = count_by t (cells_in amounts);
+        units =
+            sum_where t amounts;
+      }) out in
       ap (λ l. l ++ none_sum none areas amounts ∷ [])
       (alike_below (area_sum names areas amounts) (area_sum names others amounts) (length names) row)
       ∙ ap (λ r. map (area_sum names others amounts) (range_with_len 0 (length names)) ++ r ∷ []) last
@@ -129,14 +140,16 @@ ends_summed tested table options list zones held areas title input ending out ho
     let titles : List ℕ → List Entry → Option (List ℕ × List ℕ) =
     λ t rows. sum_titles (has_header options (Some list)) t rows in
     let title_is = titled ∙ ap (λ t. unwrap_or t (codes "zone")) holds.title in
-    let at : (rows : List Entry) → written (sums_table separator (titles title rows) (area_sums none named areas (amounts_among list.quotes rows))) ≡ area_sums_answer options list zones rows =
+    let at : (rows : List Entry) → written (sums_table separator (titles title rows)
+    (area_sums none named areas (amounts_among list.quotes rows))) ≡ area_sums_answer options list zones rows =
     λ rows.
     let amounts = amounts_among list.quotes rows in
     ap (λ r. written (sums_table separator (titles title rows) r))
     (alike_sums tested areas held.cells.items alike none named amounts
     ∙ ap (λ l. area_sums none named l amounts) holds.cells
     ∙ ap (λ l. area_sums none l (area_cells quotes zones) amounts) holds.named)
-    ∙ ap (λ t. written (sums_table separator (titles t rows) (area_sums none (area_names quotes zones) (area_cells quotes zones) amounts))) title_is in
+    ∙ ap (λ t. written (sums_table separator (titles t rows)
+    (area_sums none (area_names quotes zones) (area_cells quotes zones) amounts))) title_is in
     inl (
       ap (overlap_error options.overlapping) (sym holds.cells) ∙ free,
       subst (λ about. EndsEntries table about input ending out) (fun_ext at) ends,

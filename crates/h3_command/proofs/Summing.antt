@@ -1,7 +1,7 @@
 -- Adding numbers up by areas.
-use Rattle.std.specs.List.{count_by, filter, sum_by}
-use Rattle.std.proofs.Common.{ℕ, zero, suc, ◌≡◌, ◌≢◌, ◌+◌, ◌<◌, ◌≤◌, List, [], ◌∷◌, ◌++◌, length, take, set, map, not, cond, ◌==◌, eq-eqb, All, AllPairs, Contains, Bool, true, false, refl, arith, ◌∙◌, sym, ap, subst, inl, inr, get_or, Some, None, Option}
-use Rattle.std.specs.Prelude.{ℤ, pos, ◌+ℤ◌, ◌||◌}
+use Rattle.std.specs.List.{count_by, filter}
+use Rattle.std.proofs.Common.{ℕ, zero, suc, ◌≡◌, ◌≢◌, ◌+◌, ◌<◌, ◌≤◌, List, [], ◌∷◌, ◌++◌, length, set, map, not, cond, ◌==◌, eq-eqb, All, AllPairs, Contains, Bool, true, false, refl, arith, ◌∙◌, sym, ap, subst, inl, inr, get_or}
+use Rattle.std.specs.Prelude.{pos, ◌+ℤ◌, ◌||◌}
 use Rattle.std.proofs.Math.IntN.{+ℤ_idr}
 use Rattle.std.proofs.Math.ListN.{length-set}
 use Rattle.std.proofs.lemmas.Bool.{both_ways, cases_Bool, cases_lt}
@@ -11,11 +11,11 @@ use Rattle.std.proofs.lemmas.List.Sums.{sum_by-append}
 use Rattle.h3_index.specs.Cell.{Address}
 use Rattle.h3_numbers.specs.Laws.{TotalsInParts}
 use Rattle.h3_numbers.specs.Number.{number_units}
-use Rattle.h3_numbers.specs.Sum.{sum_count, sum_units, total}
+use Rattle.h3_numbers.specs.Sum.{sum_count, total}
 use Rattle.h3_numbers.specs.declared.number.Number.{Number}
 use Rattle.h3_numbers.specs.declared.sum.Sum.{Sum}
 use Rattle.h3_regions.specs.AreaLaws.{AreasAreTested}
-use Rattle.h3_regions.specs.Areas.{AreAreasOf, IsBefore, cells_of, lies_in, LiesIn}
+use Rattle.h3_regions.specs.Areas.{AreAreasOf, IsBefore, lies_in, LiesIn}
 use Rattle.h3_set.specs.Coverage.{is_ancestor, is_covered}
 use Rattle.h3_command.specs.AreaSums.{Amount, cells_in, is_outside, sum_where}
 use Rattle.h3_command.specs.SumTally.{AreAreaSums, IsOneMore, IsSumWhere}
@@ -26,40 +26,40 @@ default_at [] k d e lt = absurd (omega (arith, lt))
 default_at (y ∷ xs) zero d e lt = refl
 default_at (y ∷ xs) (suc k) d e lt = default_at xs k d e (omega (arith, lt))
 
--- ---- a number is added at some places
+-- ---- elements at some places change
 
--- the sums at the first i of some places, of which no two are equal, have one number more
-pub record IsAdding (places : List ℕ) (number : Number) (old now : List Sum) (i : ℕ) : Type 0 where
+-- those at the first i of some places, of which no two are equal, have changed as R says, and the others have not
+pub record IsChanging (X : Type 0) (R : X → X → Type 0) (places : List ℕ) (old now : List X) (i : ℕ) : Type 0 where
   pub size : length now ≡ length old
-  pub more : (k d : ℕ) (e : Sum) → k < i → k < length places
-      → IsOneMore number (get_or old (get_or places k d) e) (get_or now (get_or places k d) e)
-  pub same : (n : ℕ) (e : Sum) → ((k d : ℕ) → k < i → k < length places → get_or places k d ≢ n)
+  pub more : (k d : ℕ) (e : X) → k < i → k < length places
+      → R (get_or old (get_or places k d) e) (get_or now (get_or places k d) e)
+  pub same : (n : ℕ) (e : X) → ((k d : ℕ) → k < i → k < length places → get_or places k d ≢ n)
       → get_or now n e ≡ get_or old n e
 
-pub adding_begins : (places : List ℕ) (number : Number) (old : List Sum) → IsAdding places number old old 0
-adding_begins places number old = record {
+pub changing_begins : (X : Type 0) (R : X → X → Type 0) (places : List ℕ) (old : List X)
+    → IsChanging X R places old old 0
+changing_begins X R places old = record {
   size = refl;
   more = λ k d e lt. absurd (omega (arith, lt));
   same = λ n e h. refl;
 }
 
-module _ (places : List ℕ) (number : Number) (old now : List Sum) (i : ℕ) (once : AllPairs (λ m n. m ≢ n) places)
-    (inv : IsAdding places number old now i) where
-  pub added_all : (n : ℕ) (d : Sum) → length places ≤ i → Contains places n
-      → IsOneMore number (get_or old n d) (get_or now n d)
-  added_all n d end m = rw m.2 at (inv.more m.0 n d (omega (arith, m.1, end)) m.1)
+module _ (X : Type 0) (R : X → X → Type 0) (places : List ℕ) (old now : List X) (i : ℕ)
+    (once : AllPairs (λ m n. m ≢ n) places) (inv : IsChanging X R places old now i) where
+  pub changed_all : (n : ℕ) (d : X) → length places ≤ i → Contains places n → R (get_or old n d) (get_or now n d)
+  changed_all n d end m = rw m.2 at (inv.more m.0 n d (omega (arith, m.1, end)) m.1)
 
-  pub added_none : (n : ℕ) (d : Sum) → (¬ Contains places n) → get_or now n d ≡ get_or old n d
-  added_none n d miss = inv.same n d (λ k e lt lk eq. miss (k, lk, default_at places k n e lk ∙ eq))
+  pub changed_none : (n : ℕ) (d : X) → (¬ Contains places n) → get_or now n d ≡ get_or old n d
+  changed_none n d miss = inv.same n d (λ k e lt lk eq. miss (k, lk, default_at places k n e lk ∙ eq))
 
   module _ (e : ℕ) (lt : i < length places) (small : get_or places i e < length now) where
-    -- the next of them has its old sum yet
-    pub untouched : (d : Sum) → get_or now (get_or places i e) d ≡ get_or old (get_or places i e) d
+    -- the next of them has not yet
+    pub untouched : (d : X) → get_or now (get_or places i e) d ≡ get_or old (get_or places i e) d
     untouched d = inv.same (get_or places i e) d (λ k f lk ll h. once k i f lk lt (h ∙ default_at places i e f lt))
 
-    pub added : (d s : Sum) → IsOneMore number (get_or now (get_or places i e) d) s
-        → IsAdding places number old (set now (get_or places i e) s) (i + 1)
-    added d s is =
+    pub changed : (d s : X) → R (get_or now (get_or places i e) d) s
+        → IsChanging X R places old (set now (get_or places i e) s) (i + 1)
+    changed d s is =
         let n = get_or places i e in
         record {
           size = length-set now n s ∙ inv.size;
@@ -67,12 +67,12 @@ module _ (places : List ℕ) (number : Number) (old now : List Sum) (i : ℕ) (o
             | inl less ↦
                 let ne : get_or places k f ≢ n = λ h. once k i f less lt (h ∙ default_at places i e f lt) in
                 let kept = get_or-set_other now n (get_or places k f) s g ne in
-                subst (IsOneMore number (get_or old (get_or places k f) g)) (sym kept) (inv.more k f g less ll)
+                subst (R (get_or old (get_or places k f) g)) (sym kept) (inv.more k f g less ll)
             | inr not ↦
                 let at : k ≡ i = omega (arith, lk, not) in
                 let here : get_or places k f ≡ n = ap (λ j. get_or places j f) at ∙ default_at places i f e lt in
-                let own : IsOneMore number (get_or old n g) s =
-                subst (λ o. IsOneMore number o s) (default_at now n d g small ∙ untouched g) is in
+                let own : R (get_or old n g) s =
+                subst (λ o. R o s) (default_at now n d g small ∙ untouched g) is in
                 rw (here, get_or-set_same now n s g small) own
           ];
           same = λ m f h. (
@@ -85,7 +85,7 @@ module _ (places : List ℕ) (number : Number) (old now : List Sum) (i : ℕ) (o
 cells_append : (amounts more : List Amount) → cells_in (amounts ++ more) ≡ cells_in amounts ++ cells_in more
 cells_append amounts more = map-append (λ a. a.0) amounts more
 
-count_append : (test : Address → Bool) (xs ys : List Address)
+pub count_append : (test : Address → Bool) (xs ys : List Address)
     → count_by test (xs ++ ys) ≡ count_by test xs + count_by test ys
 count_append test xs ys = sum_by-append (λ x. cond (test x) 1 0) xs ys
 
@@ -154,8 +154,10 @@ covers_in [] x n h = absurd (cc)
 covers_in (p ∷ areas) x n h =
     let rest = filter (λ p. p.1 == n) areas in
     let all = is_covered (map (λ p. p.0) areas) x in
-    let go : (t : Bool) → is_covered (map (λ p. p.0) (cond t (p ∷ rest) rest)) x ≡ true → (is_ancestor p.0 x || all) ≡ true =
-    λ t. elim t as (λ t. is_covered (map (λ p. p.0) (cond t (p ∷ rest) rest)) x ≡ true → (is_ancestor p.0 x || all) ≡ true) [
+    let go : (t : Bool) → is_covered (map (λ p. p.0) (cond t (p ∷ rest) rest)) x ≡ true → (is_ancestor p.0 x || all)
+    ≡ true =
+    λ t. elim t as (λ t. is_covered (map (λ p. p.0) (cond t (p ∷ rest) rest)) x ≡ true → (is_ancestor p.0 x || all)
+    ≡ true) [
       | true ↦ λ k. or_map (is_ancestor p.0 x) (is_covered (map (λ p. p.0) rest) x) all k (covers_in areas x n)
       | false ↦ λ k. or_right (is_ancestor p.0 x) all (covers_in areas x n k)
     ] in
@@ -212,7 +214,8 @@ places_once areas x list are i j d lt lj e =
     subst (λ n. IsBefore areas x n (get_or list j d)) e before in
     elim own [ inl less ↦ omega (arith, less) | inr same ↦ omega (arith, same.1) ]
 
-module _ (law : TotalsInParts) (tested : AreasAreTested) (areas : List (Address × ℕ)) (x : Address) (list : List ℕ) (are : AreAreasOf areas x list)
+module _ (law : TotalsInParts) (tested : AreasAreTested) (areas : List (Address × ℕ)) (x : Address) (list : List ℕ)
+    (are : AreAreasOf areas x list)
     (number : Number) (old new : List Sum) (size : length new ≡ length old)
     (more : (n : ℕ) (d : Sum) → Contains list n → IsOneMore number (get_or old n d) (get_or new n d))
     (same : (n : ℕ) (d : Sum) → (¬ Contains list n) → get_or new n d ≡ get_or old n d) where
@@ -261,8 +264,10 @@ module _ (law : TotalsInParts) (tested : AreasAreTested) (areas : List (Address 
       → AreAreaSums areas amounts old none
       → AreAreaSums areas (amounts ++ (x, number_units number) ∷ []) new others
   none_next none others amounts empty one was =
-      let uncovered : is_covered (map (λ p. p.0) areas) x ≡ false = elim (cases_Bool (is_covered (map (λ p. p.0) areas) x)) [
-        | inl t ↦ let some = lies_in_some areas x t in let m = listed some.0 some.1 in absurd (omega (arith, m.1, empty))
+      let uncovered : is_covered (map (λ p. p.0) areas) x ≡ false =
+      elim (cases_Bool (is_covered (map (λ p. p.0) areas) x)) [
+        | inl t ↦ let some = lies_in_some areas x t in let m =
+            listed some.0 some.1 in absurd (omega (arith, m.1, empty))
         | inr f ↦ f
       ] in
       record {

@@ -23,10 +23,11 @@ use Rattle.h3_functions.specs.Resolutions.{get_num_cells, get_pentagons, get_res
 use Rattle.h3_functions.specs.Sets.{compact_cells, uncompact_cells, uncompact_cells_size}
 use Rattle.h3_functions.specs.Walks.{grid_disk_distances_unsafe, grid_disk_unsafe, grid_ring_unsafe}
 use Rattle.h3_set.specs.Compacted.{compacted}
+use Rattle.h3_regions.specs.Algebra.{difference, intersection}
 use Rattle.h3_command.specs.AreaCounts.{area_counts_answer}
 use Rattle.h3_command.specs.Areas.{area_answer, areas_of_file}
 use Rattle.h3_command.specs.By.{by_answer}
-use Rattle.h3_command.specs.Files.{counts_answer, covered_answer, file_cells, left_answer, shared_answer, unless_refused, zone_answer}
+use Rattle.h3_command.specs.Files.{counts_answer, covered_answer, file_cells, unless_refused, zone_answer}
 use Rattle.h3_command.specs.Required.{cell_given, edge_given, index_given}
 use Rattle.h3_command.specs.LongAnswers.{between_parts, children_for, disk_distances_for, disk_for, ring_for}
 use Rattle.h3_command.specs.TableLists.{destination_answer}
@@ -45,6 +46,7 @@ use Rattle.h3_rows.specs.RowsAnswer.{Form}
 use Rattle.h3_rows.specs.declared.table.FieldContent.TheVariants as content
 use Rattle.h3_command.specs.SumAnswers.{area_sums_answer}
 use Rattle.h3_command.specs.Rows.{area_form, file_form, list_form, listed_answer, pair_form, rows_form}
+use Rattle.h3_command.specs.ZoneSums.{zone_sums_answer}
 
 -- Request: what a command reads and writes: an answer that its words alone fix, one about the cells listed on standard
 -- input, also with the number of a faulty line, one for each line of it, or one about the links of a base cell table;
@@ -108,15 +110,23 @@ summed (Some list) (Some field) = Some (list, field)
 -- area_counts_request areas list sum: what is read and written for the counts of cells in areas, and of their numbers
 abbrev pub area_counts_request : AreaOptions → Option RowOptions → Option (RowOptions × CellField) → Request
 area_counts_request areas list None =
-    of_areas_and_list false (names_table areas.table) (list_form list) (area_counts_answer areas list)
+    of_areas_and_list areas.overlapping (names_table areas.table) (list_form list) (area_counts_answer areas list)
 area_counts_request areas list (Some sum) =
     of_areas_and_rows areas.overlapping (names_table areas.table) (table_of sum.0 sum.1 content.Number)
     (area_sums_answer areas sum.0)
 
+-- zone_counts_request tables sum: what is read and written for the counts of cells in zones without names, and of their
+-- numbers
+abbrev pub zone_counts_request : Tables → Option (RowOptions × CellField) → Request
+zone_counts_request tables None = of_file_and_list Zones (file_form tables) (list_form tables.list) counts_answer
+zone_counts_request tables (Some sum) =
+    of_file_and_rows Zones (file_form tables) (table_of sum.0 sum.1 content.Number)
+    (zone_sums_answer tables.file sum.0)
+
 -- counts_request tables areas: what is read and written for the counts of cells: how many lie in each zone, or, if the
 -- zones have names, in each area
 abbrev pub counts_request : Tables → Option AreaOptions → Request
-counts_request tables None = of_file_and_list Zones (file_form tables) (list_form tables.list) counts_answer
+counts_request tables None = zone_counts_request tables (summed tables.list tables.sum)
 counts_request tables (Some areas) = area_counts_request areas tables.list (summed tables.list tables.sum)
 
 -- by_request by list function whole: what a command reads and writes that answers about the cells of a list by a
@@ -127,6 +137,24 @@ by_request None list function whole = whole
 by_request (Some field) None function whole = whole
 by_request (Some field) (Some rows) function whole =
     of_rows (table_of rows field content.Text) (by_answer rows function)
+
+-- region_request list file function: what a command reads and writes that makes one list of the cells of a region's
+-- file
+-- and those of a list: the file is read first
+abbrev pub region_request : Option RowOptions → Option Form → (List Address → List Address → List Address) → Request
+region_request list file function =
+    of_file_and_list Region file (list_form list) (λ region cells. written (cell_lines (function region cells)))
+
+-- by_region_request by list file function: what a command reads and writes that makes lists of the cells of a region's
+-- file and those of a list by a function: one of all of them; or, if a field divides the list's rows, for each of the
+-- field's values one of the file's cells and those of the value. The file is read first.
+abbrev pub by_region_request : Option CellField → Option RowOptions → Option Form
+    → (List Address → List Address → List Address) → Request
+by_region_request None list file function = region_request list file function
+by_region_request (Some field) None file function = region_request None file function
+by_region_request (Some field) (Some rows) file function =
+    of_file_and_rows Region file (table_of rows field content.Text)
+    (λ region. by_answer rows (λ cells. Ok (function region cells)))
 
 -- request_of tables command: what a command reads and writes, of which the list and the file of cells have rows, or
 -- bare lines: an answer that its words alone fix, one about the cells listed on standard input, or those of rows, the
@@ -163,8 +191,9 @@ request_of tables command.UniteCells =
     by_request tables.by tables.list (λ cells. Ok (compacted cells))
     (of_numbered_list (list_form tables.list) (λ cells. written (cell_lines (compacted cells))))
 request_of tables command.IntersectCells =
-    of_file_and_list Region (file_form tables) (list_form tables.list) shared_answer
-request_of tables command.SubtractCells = of_file_and_list Region (file_form tables) (list_form tables.list) left_answer
+    by_region_request tables.by tables.list (file_form tables) (λ region cells. intersection cells region)
+request_of tables command.SubtractCells =
+    by_region_request tables.by tables.list (file_form tables) (λ region cells. difference cells region)
 request_of tables command.AreCoveredCells =
     of_file_and_lines Region (file_form tables) (rows_form tables.list (codes "isCovered")) covered_answer
 request_of tables command.CellsToZones = zones_request tables tables.areas

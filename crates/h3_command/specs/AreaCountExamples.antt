@@ -50,3 +50,10 @@ uncounted : answer_to (of_areas_and_list false (in_columns (codes "zone")) rows 
     ≡ record { output = []; ending = Err (File Zones DuplicateInput) }
 unfolding parsed_index cell_in address_in number_of
 uncounted = refl
+
+-- unless they may: then a cell counts in each of its areas; one that has none counts as such
+in_each : answer_to (of_areas_and_list true (in_columns (codes "zone")) rows headed) trips overlapping
+    ≡ written (codes "zone,count" ++ 10 ∷ codes "north,1" ++ 10 ∷ south ++ codes ",1" ++ 10 ∷ codes "all,2" ++ 10
+    ∷ codes ",1" ++ 10 ∷ [])
+unfolding digits parsed_index cell_in address_in number_of
+in_each = refl

@@ -1,6 +1,8 @@
 -- What is made of the cells of a list and those of a file. Private contracts and proofs alone cite this file.
-use Rattle.std.specs.Prelude.{◌≡◌, ℕ, List, Option, IsPermutation}
-use Rattle.h3_index.specs.Cell.{Address}
+use Rattle.std.specs.Prelude.{◌≡◌, ◌++◌, ◌<◌, ◌↔◌, ℕ, All, List, Option, IsPermutation, get_or, length}
+use Rattle.h3_index.specs.Cell.{Address, IsCell}
+use Rattle.h3_set.specs.Coverage.{IsCovered}
+use Rattle.h3_command.specs.ByValue.{AreApart, part_of}
 use Rattle.h3_lines.specs.declared.run_error.CellFile.{CellFile}
 use Rattle.h3_lines.specs.declared.run_error.CellFile.TheVariants.{Region, Zones}
 use Rattle.h3_lines.specs.declared.run_error.RunError.{RunError}
@@ -35,3 +37,30 @@ in_file file (Fault f) = Fault f
 -- whether a region covers the cell with an index
 abbrev pub region_answer : List Address → Option ℕ → Answer
 region_answer region index = printed truth_line (is_covered_cell region index)
+
+-- IsRegionOf listed region: the list has valid cells, and a region's list covers what they do, at resolution 15: no
+-- cell
+-- is finer
+pub record IsRegionOf (listed region : List Address) : Type 0 where
+  pub valid : All IsCell listed
+  pub covers : (x : Address) → IsCovered region 15 x ↔ IsCovered listed 15 x
+
+-- IsCut kind region cells made: these are what is made of the cells and those of a list of which the region is
+abbrev pub IsCut : Combination → List Address → List Address → List Address → Type 0
+IsCut kind region cells made =
+    (listed : List Address) → IsRegionOf listed region → made ≡ combined kind listed cells
+
+-- IsCutBehind kind region cells old new: the new list has the old one, and behind it what is made of the cells and
+-- those
+-- of a list of which the region is
+abbrev pub IsCutBehind : Combination → List Address → List Address → List Address → List Address → Type 0
+IsCutBehind kind region cells old new = (more : List Address) × (new ≡ old ++ more) × IsCut kind region cells more
+
+-- AreCut kind region old begun size made parts: of each part of the old cells below `size` the part of the new ones
+-- with
+-- its number is what is made of it and the region
+pub record AreCut (kind : Combination) (region old : List Address) (begun : List (ℕ × ℕ)) (size : ℕ)
+    (made : List Address) (parts : List (ℕ × ℕ)) : Type 0 where
+  pub apart : AreApart size (length made) parts
+  pub cut : (n : ℕ) → n < size
+      → IsCut kind region (part_of old (get_or begun n (0, 0))) (part_of made (get_or parts n (0, 0)))

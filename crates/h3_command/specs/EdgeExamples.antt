@@ -88,7 +88,8 @@ pairs_refused_too link = refl
 over_the_plain_table : list_answer (destination_answer (test_link Plain))
     (codes "1413d3ffffffffff" ++ 10 ∷ 10 ∷ codes "11021fffffffffff" ++ 10 ∷ codes "1413d3ffffffffff")
     ≡ record { output = codes "813ebffffffffff" ++ 10 ∷ []; ending = Err (At 3 Pentagon) }
-unfolding edge_destination neighbor step_of found_sum candidates digit_lists edge_in directed_edge_in edge_number address_in number_of parsed_index text_of
+unfolding edge_destination neighbor step_of found_sum candidates digit_lists edge_in directed_edge_in edge_number
+    address_in number_of parsed_index text_of
 over_the_plain_table = refl
 
 -- where the table is refused, the list has no part in the answer

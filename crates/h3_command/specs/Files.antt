@@ -6,11 +6,10 @@ use Rattle.h3_index.specs.declared.error.H3Error.{H3Error}
 use Rattle.h3_set.specs.Compacted.{compacted}
 use Rattle.h3_set.specs.Coverage.{is_covered, IsApart}
 use Rattle.h3_set.specs.Refusals.{compaction_refusal}
-use Rattle.h3_regions.specs.Algebra.{difference, intersection}
 use Rattle.h3_regions.specs.Counting.{count_in, count_outside}
 use Rattle.h3_regions.specs.Zones.{by_number, zone_of}
 use Rattle.h3_functions.specs.Inspection.{for_value}
-use Rattle.h3_lines.specs.Answer.{Answer, cell_lines, count_line, printed, truth_line, written, zone_line}
+use Rattle.h3_lines.specs.Answer.{Answer, count_line, printed, truth_line, written, zone_line}
 use Rattle.h3_lines.specs.List.{listed_cells}
 use Rattle.h3_lines.specs.Numbered.{faulty_line}
 use Rattle.h3_lines.specs.declared.run_error.AnswerError.{AnswerError}
@@ -69,16 +68,6 @@ file_cells file (Some form) bytes = judged_rows file (cells_of_table form bytes)
 abbrev pub unless_refused : {A : Type 0} → (A → Answer) → Result A AnswerError → Answer
 unless_refused about (Ok value) = about value
 unless_refused about (Err e) = record { output = []; ending = Err e }
-
--- ---- the cells of a list and those of a file
-
--- shared_answer file cells: the lines of what a list and a file of cells both cover
-abbrev pub shared_answer : List Address → List Address → Answer
-shared_answer file cells = written (cell_lines (intersection cells file))
-
--- left_answer file cells: the lines of what a list covers and a file of cells does not
-abbrev pub left_answer : List Address → List Address → Answer
-left_answer file cells = written (cell_lines (difference cells file))
 
 -- ---- one cell and those of a file
 

@@ -23,6 +23,7 @@ pub mod Long
 pub mod LongAnswers
 pub mod LongExamples
 pub mod NewColumns
+pub mod OverlapTally
 pub mod Plan
 pub mod Required
 pub mod Rows
@@ -38,3 +39,6 @@ pub mod TableLines
 pub mod TableLists
 pub mod TableQuery
 pub mod WordsQuery
+pub mod ZoneSumExamples
+pub mod ZoneSums
+pub mod ZoneTally

@@ -265,7 +265,8 @@ RefusesAreas overlapping table bytes file (Err (Error e)) =
 
 -- GivesAreas overlapping table bytes file entries: the bytes of a table of zones with names are read to their end, have
 -- these cells with their names, and no two of its areas overlap, or they may
-pub record GivesAreas (overlapping : Bool) (table : NamedTable) (bytes : List ℕ) (file : SourceUse) (entries : List Entry) : Type 0 where
+pub record GivesAreas (overlapping : Bool) (table : NamedTable) (bytes : List ℕ) (file : SourceUse)
+    (entries : List Entry) : Type 0 where
   pub is : areas_of_file overlapping table bytes ≡ Ok entries
   pub within : IsWithinReads (2 ^ 40) 65536 bytes
   pub sound : NoReadFails file

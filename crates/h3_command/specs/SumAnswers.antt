@@ -39,7 +39,12 @@ amounts_among quotes (e ∷ es) = amount_before quotes e.cell e.field (amounts_a
 -- numbers add up to
 abbrev pub area_sum : List (List ℕ) → List (Address × ℕ) → List Amount → ℕ → SumRow
 area_sum names areas amounts n =
-    record { name = get_or names n []; count = count_in_area areas (cells_in amounts) n; units = sum_in_area areas amounts n }
+    record {
+      name = get_or names n [];
+      count = count_in_area areas (cells_in amounts) n;
+      units =
+          sum_in_area areas amounts n;
+    }
 
 -- none_sum none areas amounts: `none` with the same of the cells that lie in no area
 abbrev pub none_sum : List ℕ → List (Address × ℕ) → List Amount → SumRow

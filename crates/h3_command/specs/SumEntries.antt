@@ -10,7 +10,8 @@ use Rattle.h3_command.specs.SumAnswers.{amount_before, amount_in, amounts_among}
 use Rattle.h3_command.specs.SumTally.{AreAreaSums}
 
 -- from sums and a title to others these entries were taken, whatever was taken before
-pub record SumsMore (areas areas' : List (Address × ℕ)) (quotes quotes' : Bool) (sums : List Sum) (none : Sum) (sums' : List Sum)
+pub record SumsMore (areas areas' : List (Address × ℕ)) (quotes quotes' : Bool) (sums : List Sum) (none : Sum)
+    (sums' : List Sum)
     (none' : Sum) (title title' : Option (List ℕ)) (entries : List Entry) : Type 0 where
   pub areas_kept : areas' ≡ areas
   pub quotes_kept : quotes' ≡ quotes
@@ -33,8 +34,10 @@ amounts_both : (quotes : Bool) (xs ys : List Entry)
     → amounts_among quotes (xs ++ ys) ≡ amounts_among quotes xs ++ amounts_among quotes ys
 amounts_both quotes [] ys = refl
 amounts_both quotes (e ∷ xs) ys =
-    let go : (cell : Option Address) → amount_before quotes cell e.field (amounts_among quotes (xs ++ ys)) ≡ amount_before quotes cell e.field (amounts_among quotes xs) ++ amounts_among quotes ys =
-    λ cell. elim cell as (λ cell. amount_before quotes cell e.field (amounts_among quotes (xs ++ ys)) ≡ amount_before quotes cell e.field (amounts_among quotes xs) ++ amounts_among quotes ys) [
+    let go : (cell : Option Address) → amount_before quotes cell e.field (amounts_among quotes (xs ++ ys))
+    ≡ amount_before quotes cell e.field (amounts_among quotes xs) ++ amounts_among quotes ys =
+    λ cell. elim cell as (λ cell. amount_before quotes cell e.field (amounts_among quotes (xs ++ ys))
+    ≡ amount_before quotes cell e.field (amounts_among quotes xs) ++ amounts_among quotes ys) [
       | None ↦ amounts_both quotes xs ys
       | Some c ↦ ap (λ l. (c, amount_in quotes e.field) ∷ l) (amounts_both quotes xs ys)
     ] in
@@ -56,10 +59,12 @@ sums_then areas areas' areas'' quotes quotes' quotes'' s1 s2 s3 n1 n2 n3 t1 t2 t
   size = q.size ∙ p.size;
   title_is = q.title_is ∙ ap (λ t. title_after t ys) p.title_is ∙ sym (title_both t1 xs ys);
   more = λ before h. (
-      let step : (l : List Amount) → AreAreaSums areas l s2 n2 → AreAreaSums areas (l ++ amounts_among quotes ys) s3 n3 =
+      let step : (l : List Amount) → AreAreaSums areas l s2 n2
+      → AreAreaSums areas (l ++ amounts_among quotes ys) s3 n3 =
       subst (λ a. (l : List Amount) → AreAreaSums a l s2 n2
       → AreAreaSums a (l ++ amounts_among quotes ys) s3 n3) p.areas_kept
-      (subst (λ b. (l : List Amount) → AreAreaSums areas' l s2 n2 → AreAreaSums areas' (l ++ amounts_among b ys) s3 n3) p.quotes_kept q.more) in
+      (subst (λ b. (l : List Amount) → AreAreaSums areas' l s2 n2 → AreAreaSums areas' (l ++ amounts_among b ys) s3 n3)
+      p.quotes_kept q.more) in
       subst (λ l. AreAreaSums areas l s3 n3)
       (append_assoc before (amounts_among quotes xs) (amounts_among quotes ys)
       ∙ ap (λ l. before ++ l) (sym (amounts_both quotes xs ys)))

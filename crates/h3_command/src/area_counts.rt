@@ -1,10 +1,9 @@
 //! How many cells of a list lie in each of the areas of a table of zones with names.
 
 ghost use Rattle.std.proofs.Common.{◌∙◌, refl};
-ghost use Rattle.std.specs.Prelude.{◌≡◌, ◌+◌, ◌<◌, ◌≤◌, ◌++◌, ◌∷◌, [], ℕ, false, All, Bool, List, IfOk, OnErr, length, map, sum, take, None, Some, option_map, string_bytes, if◌then◌else◌};
+ghost use Rattle.std.specs.Prelude.{◌≡◌, ◌+◌, ◌<◌, ◌≤◌, ◌++◌, ◌∷◌, [], ℕ, true, false, All, Bool, List, IfOk, OnErr, length, map, sum, take, None, Some, option_map, string_bytes, if◌then◌else◌};
 ghost use Rattle.std.specs.List.{flat_map};
 ghost use Rattle.h3_index.specs.Cell.{Address};
-ghost use Rattle.h3_regions.specs.Refusals.{areas_refusal};
 ghost use Rattle.h3_lines.specs.Answer.{written};
 ghost use Rattle.h3_lines.specs.Answering.{FailsPush, Moves};
 ghost use Rattle.h3_lines.specs.Reads.{source_use};
@@ -14,18 +13,20 @@ ghost use Rattle.h3_rows.specs.Named.{Entry, names_table};
 ghost use Rattle.h3_command.specs.AreaCounts.{area_counts, area_counts_answer, count_row, counts_table, has_header, header_row};
 ghost use Rattle.h3_command.specs.AreaTable.{EndsJudged, HoldsAreas};
 ghost use Rattle.h3_command.specs.AreaTally.{AreaCountsMore, area_counts_none, area_counts_then, named_counts};
+ghost use Rattle.h3_command.specs.Areas.{overlap_error};
 ghost use Rattle.h3_command.specs.Rows.{list_form};
 ghost use Rattle.h3_command.specs.Run.{EndsNumberedList, EndsOverAreas};
 
-use crate::areas::{name_of_column, read_table};
+use crate::areas::{name_of_column, numbers_for, read_table};
 use crate::files::{look_ahead, slots_for, table_of};
 use crate::listed::take_listed;
+use crate::overlap_tally::OverlapTally;
 use h3_index::Cell;
 use h3_lines::{
     AnswerError, BLOCK, CellFile, CellJob, Fault, LINES, Line, RunError, write_all, write_answer,
 };
 use h3_regions::laws::areas_are_lawful;
-use h3_regions::{ApartAreas, TabledZones, Zones, count_next_in_areas};
+use h3_regions::{ApartAreas, Areas, TabledZones, Zones, count_next_in_areas};
 use h3_requests::{AreaOptions, RowOptions};
 use h3_rows::laws::areas_divide_cells;
 use h3_rows::{AreaTable, Names};
@@ -292,9 +293,54 @@ fn count_apart<R: Source, W: Sink>(
     )
 }
 
-/// Writes how many of the listed cells, or of those of the rows, lie in each area, and how many in none,
-/// unless two areas overlap.
-fn count_areas<R: Source, W: Sink>(
+/// As `count_apart`, of areas that may overlap: a cell counts in each of its areas. There has to be room for
+/// so many numbers where areas are looked for.
+fn count_in_each<R: Source, W: Sink>(
+    alloc: Global,
+    options: &AreaOptions,
+    list: &Option<RowOptions>,
+    title: &[u8],
+    names: &Names,
+    areas: Areas,
+    room: usize,
+    input: &mut R,
+    out: &mut W,
+) -> Result<(), RunError>
+    requires room { length areas ≤ room }
+    requires small { All (λ p. p.1 < length names.now.spans.items) areas }
+    ensures { EndsNumberedList (list_form list.now)
+        (λ cells. written (counts_table options.now.table.rows.separator
+        (if has_header options.now list.now then Some title.now else None)
+        (area_counts (string_bytes options.now.none)
+        (names_in names.now.bytes.items names.now.spans.items) areas.entry cells)))
+        (source_use R.left R.has_failed input.old input.new) result
+        (sink_use W.taken W.has_failed out.old out.new) }
+{
+    let numbers = numbers_for(alloc, room)?;
+    let many = names.spans.len();
+    let counts = vec![in alloc; 0u64; many].map_err(|_| RunError::Fault(Fault::Memory))?;
+    let tally = OverlapTally {
+        areas,
+        numbers,
+        counts,
+        none: 0,
+        taken: 0,
+    };
+    let tally = take_listed(alloc, tally, list, input)?;
+    let title = header_title(options, list, title);
+    let others = (options.none.as_bytes(), tally.none);
+    write_area_counts(
+        options.table.rows.separator,
+        title,
+        names,
+        &tally.counts,
+        others,
+        out,
+    )
+}
+
+/// As `count_areas`, of areas that may overlap.
+fn count_overlapping<R: Source, W: Sink>(
     alloc: Global,
     options: &AreaOptions,
     list: &Option<RowOptions>,
@@ -302,9 +348,48 @@ fn count_areas<R: Source, W: Sink>(
     input: &mut R,
     out: &mut W,
 ) -> Result<(), RunError>
-    requires { All (λ p. p.1 < length table.old.names.spans.items) table.old.cells.items }
+    requires may { options.now.overlapping ≡ true }
+    requires small { All (λ p. p.1 < length table.old.names.spans.items) table.old.cells.items }
     ensures { (entries : List Entry) → HoldsAreas options.now.table.rows.quotes entries table.old
-        → EndsJudged (areas_refusal (area_cells options.now.table.rows.quotes entries))
+        → EndsJudged (overlap_error options.now.overlapping
+        (area_cells options.now.table.rows.quotes entries))
+        (EndsNumberedList (list_form list.now) (area_counts_answer options.now list.now entries)
+        (source_use R.left R.has_failed input.old input.new) result
+        (sink_use W.taken W.has_failed out.old out.new))
+        (source_use R.left R.has_failed input.old input.new) result
+        (sink_use W.taken W.has_failed out.old out.new) }
+{
+    areas_are_lawful();
+    let room = table.cells.len();
+    let column = name_of_column(&table.title);
+    let areas = Areas::of(&mut table.cells);
+    count_in_each(
+        alloc,
+        options,
+        list,
+        column,
+        &table.names,
+        areas,
+        room,
+        input,
+        out,
+    )
+}
+
+/// As `count_areas`, of areas that may not overlap.
+fn count_unless_overlapping<R: Source, W: Sink>(
+    alloc: Global,
+    options: &AreaOptions,
+    list: &Option<RowOptions>,
+    table: &mut AreaTable,
+    input: &mut R,
+    out: &mut W,
+) -> Result<(), RunError>
+    requires may_not { options.now.overlapping ≡ false }
+    requires small { All (λ p. p.1 < length table.old.names.spans.items) table.old.cells.items }
+    ensures { (entries : List Entry) → HoldsAreas options.now.table.rows.quotes entries table.old
+        → EndsJudged (overlap_error options.now.overlapping
+        (area_cells options.now.table.rows.quotes entries))
         (EndsNumberedList (list_form list.now) (area_counts_answer options.now list.now entries)
         (source_use R.left R.has_failed input.old input.new) result
         (sink_use W.taken W.has_failed out.old out.new))
@@ -320,6 +405,33 @@ fn count_areas<R: Source, W: Sink>(
     }
 }
 
+/// Writes how many of the listed cells, or of those of the rows, lie in each area, and how many in none,
+/// unless two areas overlap and may not.
+fn count_areas<R: Source, W: Sink>(
+    alloc: Global,
+    options: &AreaOptions,
+    list: &Option<RowOptions>,
+    table: &mut AreaTable,
+    input: &mut R,
+    out: &mut W,
+) -> Result<(), RunError>
+    requires { All (λ p. p.1 < length table.old.names.spans.items) table.old.cells.items }
+    ensures { (entries : List Entry) → HoldsAreas options.now.table.rows.quotes entries table.old
+        → EndsJudged (overlap_error options.now.overlapping
+        (area_cells options.now.table.rows.quotes entries))
+        (EndsNumberedList (list_form list.now) (area_counts_answer options.now list.now entries)
+        (source_use R.left R.has_failed input.old input.new) result
+        (sink_use W.taken W.has_failed out.old out.new))
+        (source_use R.left R.has_failed input.old input.new) result
+        (sink_use W.taken W.has_failed out.old out.new) }
+{
+    if options.overlapping {
+        count_overlapping(alloc, options, list, table, input, out)
+    } else {
+        count_unless_overlapping(alloc, options, list, table, input, out)
+    }
+}
+
 /// Reads a table of zones with names, and then writes how many of the listed cells, or of those of the
 /// rows, lie in each area, and how many in none.
 // Inlined, its blocks would take their place on the stack while `run_file_then_list` runs another command.
@@ -332,7 +444,7 @@ pub(crate) fn count_over_areas<R: Source, T: Source, W: Sink>(
     file: &mut T,
     out: &mut W,
 ) -> Result<(), RunError>
-    ensures { EndsOverAreas false (names_table options.now.table)
+    ensures { EndsOverAreas options.now.overlapping (names_table options.now.table)
         (λ entries. EndsNumberedList (list_form list.now)
         (area_counts_answer options.now list.now entries)
         (source_use R.left R.has_failed input.old input.new) result

@@ -23,9 +23,9 @@ ghost use Rattle.h3_command.specs.SumEntries.{SumsMore, sums_none, sums_then};
 ghost use Rattle.h3_command.specs.SumRows.{titles_of};
 ghost use Rattle.h3_command.specs.SumTables.{sums_table};
 
-use crate::areas::{name_of_column, read_table};
+use crate::areas::{name_of_column, numbers_for, read_table};
 use crate::files::slots_for;
-use crate::sum_rows::{RowNames, write_sums};
+use crate::sum_rows::{RowNames, SumForm, write_sums};
 use crate::sum_tally::{Apart, FindAreas, Overlapping, add_amount};
 use h3_index::Cell;
 use h3_lines::{AnswerError, CellFile, Fault, RunError};
@@ -107,6 +107,10 @@ impl<F: FindAreas> NamedJob for SumTally<F> {
 impl RowNames for Names {
     ghost names = { λ n. names_in n.bytes.items n.spans.items };
 
+    fn count(&self) -> usize {
+        self.spans.len()
+    }
+
     fn name(&self, number: usize) -> &[u8] {
         self.get(number).unwrap_or(b"")
     }
@@ -130,6 +134,21 @@ fn is_headed(options: &AreaOptions, list: &RowOptions) -> bool
     options.table.rows.has_header || list.has_header
 }
 
+/// How the table of the sums of areas is written, with this title of the column of names.
+fn area_form<'a>(options: &'a AreaOptions, list: &RowOptions, title: &'a [u8]) -> SumForm<'a>
+    ensures separator { result.separator ≡ options.now.table.rows.separator }
+    ensures header { result.has_header ≡ has_header options.now (Some list.now) }
+    ensures title { result.title.now ≡ title.now }
+    ensures none { result.none.now ≡ string_bytes options.now.none }
+{
+    SumForm {
+        separator: options.table.rows.separator,
+        has_header: is_headed(options, list),
+        title,
+        none: options.none.as_bytes(),
+    }
+}
+
 /// The titles of the columns of names and of sums, if there is a header.
 fn titles_if<'a>(has_header: bool, names: &'a [u8], sums: &'a [u8]) -> Option<(&'a [u8], &'a [u8])>
     ensures { option_map (λ t. (t.0.now, t.1.now)) result ≡ titles_of has_header names.now sums.now }
@@ -138,17 +157,6 @@ fn titles_if<'a>(has_header: bool, names: &'a [u8], sums: &'a [u8]) -> Option<(&
         Some((names, sums))
     } else {
         None
-    }
-}
-
-/// Places for so many numbers of areas. `Fault::Memory` if there is no memory for them.
-fn numbers_for(alloc: Global, count: usize) -> Result<Vec<u32>, RunError>
-    ensures ok { IfOk result (λ numbers. length numbers.items ≡ count) }
-    ensures err { IfErr result (λ e. e ≡ refusal.Fault Memory) }
-{
-    match vec![in alloc; 0u32; count] {
-        Ok(numbers) => Ok(numbers),
-        Err(_) => Err(RunError::Fault(Fault::Memory)),
     }
 }
 
@@ -167,14 +175,14 @@ fn sums_for(alloc: Global, count: usize) -> Result<Vec<Sum>, RunError>
 }
 
 /// Writes how many of the rows of a list have their cells in each area and in none, and what their numbers
-/// add up to. There has to be room for so many numbers where areas are looked for.
-fn sum_found<R: Source, W: Sink, F: FindAreas + Drop>(
+/// add up to, beside the names of the areas. There has to be room for so many numbers where areas are looked
+/// for.
+pub(crate) fn sum_found<R: Source, W: Sink, F: FindAreas + Drop, N: RowNames>(
     alloc: Global,
-    options: &AreaOptions,
+    form: &SumForm,
     list: &RowOptions,
     field: &CellField,
-    title: &[u8],
-    names: &Names,
+    names: &N,
     finder: F,
     room: usize,
     input: &mut R,
@@ -182,18 +190,17 @@ fn sum_found<R: Source, W: Sink, F: FindAreas + Drop>(
 ) -> Result<(), RunError>
     requires counted { is_counted field.now ≡ true }
     requires room { F.room finder ≤ room }
-    requires small { All (λ p. p.1 < length names.now.spans.items) (F.areas finder) }
+    requires small { All (λ p. p.1 < length (N.names names.now)) (F.areas finder) }
     ensures { EndsEntries (table_of list.now field.now content.Number)
-        (λ rows. written (sums_table options.now.table.rows.separator
-        (sum_titles (has_header options.now (Some list.now)) title.now rows)
-        (area_sums (string_bytes options.now.none)
-        (names_in names.now.bytes.items names.now.spans.items) (F.areas finder)
+        (λ rows. written (sums_table form.now.separator
+        (sum_titles form.now.has_header form.now.title.now rows)
+        (area_sums form.now.none.now (N.names names.now) (F.areas finder)
         (amounts_among list.now.quotes rows))))
         (source_use R.left R.has_failed input.old input.new) result
         (sink_use W.taken W.has_failed out.old out.new) }
 {
     let numbers = numbers_for(alloc, room)?;
-    let sums = sums_for(alloc, names.spans.len())?;
+    let sums = sums_for(alloc, names.count())?;
     let tally = SumTally {
         finder,
         numbers,
@@ -205,17 +212,9 @@ fn sum_found<R: Source, W: Sink, F: FindAreas + Drop>(
         alloc,
     };
     let tally = take_named_cells(alloc, tally, list, field, FieldContent::Number, input)?;
-    let header = is_headed(options, list);
-    let titles = titles_if(header, title, sum_title(&tally.title));
-    let none = (options.none.as_bytes(), tally.none);
-    write_sums(
-        options.table.rows.separator,
-        titles,
-        names,
-        &tally.sums,
-        none,
-        out,
-    )
+    let titles = titles_if(form.has_header, form.title, sum_title(&tally.title));
+    let none = (form.none, tally.none);
+    write_sums(form.separator, titles, names, &tally.sums, none, out)
 }
 
 /// As `sum_areas`, of areas that may overlap.
@@ -246,12 +245,12 @@ fn sum_overlapping<R: Source, W: Sink>(
     let room = table.cells.len();
     let areas = Areas::of(&mut table.cells);
     let finder = Overlapping { areas };
+    let form = area_form(options, list, title);
     sum_found(
         alloc,
-        options,
+        &form,
         list,
         field,
-        title,
         &table.names,
         finder,
         room,
@@ -289,12 +288,12 @@ fn sum_apart<R: Source, W: Sink>(
     match ApartAreas::of(&mut table.cells, &mut slots) {
         Ok(areas) => {
             let finder = Apart { areas, place: 0 };
+            let form = area_form(options, list, title);
             sum_found(
                 alloc,
-                options,
+                &form,
                 list,
                 field,
-                title,
                 &table.names,
                 finder,
                 1,

@@ -33,7 +33,7 @@ use h3_streams::{Sink, Source, StreamFault};
 use std::alloc::Global;
 
 /// So many parts, all empty. `Fault::Memory` if there is no memory for them.
-fn empty_parts(alloc: Global, count: usize) -> Result<Vec<(usize, usize)>, RunError>
+pub(crate) fn empty_parts(alloc: Global, count: usize) -> Result<Vec<(usize, usize)>, RunError>
     ensures ok { IfOk result (λ parts. parts.items ≡ replicate count (0, 0)) }
     ensures err { IfErr result (λ e. e ≡ refusal.Fault Memory) }
 {
@@ -108,7 +108,7 @@ fn put_lists<F: ListOfValue, W: Sink>(
 /// cells are made ready.
 // Inlined, its block would take its place on the stack while the caller runs another writer.
 #[inline(never)]
-fn write_lists<F: ListOfValue, W: Sink>(
+pub(crate) fn write_lists<F: ListOfValue, W: Sink>(
     function: &F,
     separator: u8,
     title: Option<&[u8]>,
@@ -192,7 +192,7 @@ pub(crate) fn write_by_value<F: ListOfValue, W: Sink>(
 
 /// The title of the values' field in the header, if the list has a header: empty if the header lacks
 /// that field.
-fn title_if(has_header: bool, title: &Option<Vec<u8>>) -> Option<&[u8]>
+pub(crate) fn title_if(has_header: bool, title: &Option<Vec<u8>>) -> Option<&[u8]>
     ensures { option_map (λ t. t.now) result
         ≡ title_if has_header (option_map (λ t. t.items) title.now) }
 {

@@ -183,6 +183,30 @@ fn left_within(
     }
 }
 
+/// The cells of the region that one region covers and another does not. `Fault::Memory` where there is
+/// none for it.
+pub(crate) fn left_of_region(
+    alloc: Global,
+    cells: &Region,
+    others: &Region,
+) -> Result<Vec<Cell>, RunError>
+    ensures covers { IfOk result (λ left. (x : Address) → IsCovered left.items 15 x
+        ↔ (IsCovered cells.now 15 x × (¬ IsCovered others.now 15 x))) }
+    ensures region { IfOk result (λ left. IsRegion left.items) }
+    ensures err { IfErr result (λ e. e ≡ refusal.Fault Memory) }
+{
+    let mut room = cells.cells().len();
+    loop {
+        match left_within(alloc, cells, others, room)? {
+            Some(left) => return Ok(left),
+            None => {
+                let more = room.checked_add(room.max(1));
+                room = more.ok_or(RunError::Fault(Fault::Memory))?;
+            }
+        }
+    }
+}
+
 /// The region of what one list covers and another does not, in post order. `Fault::Memory` where
 /// there is none for it.
 fn left_cells(alloc: Global, cells: &mut [Cell], others: &mut [Cell]) -> Result<Vec<Cell>, RunError>
@@ -193,16 +217,7 @@ fn left_cells(alloc: Global, cells: &mut [Cell], others: &mut [Cell]) -> Result<
     coverages_decide_combinations();
     let cells = Region::of(cells);
     let others = Region::of(others);
-    let mut room = cells.cells().len();
-    loop {
-        match left_within(alloc, &cells, &others, room)? {
-            Some(left) => return Ok(left),
-            None => {
-                let more = room.checked_add(room.max(1));
-                room = more.ok_or(RunError::Fault(Fault::Memory))?;
-            }
-        }
-    }
+    left_of_region(alloc, &cells, &others)
 }
 
 /// The region that is made of the cells of a list and those of a file, in post order.

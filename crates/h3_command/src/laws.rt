@@ -4,11 +4,12 @@ ghost use Rattle.h3_command.specs.AreaCounts.{AreaCountsPrintedAddUp};
 ghost use Rattle.h3_command.specs.AreaSums.{AreaSumsInParts};
 ghost use Rattle.h3_command.specs.Join.{CellsGetTheirNames, NamesAreOfRows, NamesDiffer, OneNameEach, OthersGetNone};
 ghost use Rattle.h3_command.specs.SumAnswers.{AreaSumsPrintedAddUp};
+ghost use Rattle.h3_command.specs.ZoneSums.{ZoneSumsPrintedAddUp};
 ghost use Rattle.h3_rows.specs.Areas.{NamesStandOnce};
 ghost use Rattle.h3_command.specs.NewColumns.{AnswersAreWords, ErrorNamesAreFields, ErrorNamesAreKept, NamesAreKept, RowsStandOnce, TitlesAreFields, WordPairsAreKept, WordPairsAreUncut, WordsAreFields, WordsAreKept};
 
 use h3_numbers::laws::totals_are_lawful;
-use h3_regions::laws::areas_are_lawful;
+use h3_regions::laws::{areas_are_lawful, counts_add_up};
 use h3_rows::laws::{answers_stand_beside, areas_divide_cells};
 
 /// An answer to an index is lines, or an error alone. Each line is
@@ -68,5 +69,14 @@ pub fn area_sums_add_up()
 {
     areas_divide_cells();
     areas_are_lawful();
+    totals_are_lawful();
+}
+
+/// What is printed of the counts and sums of zones of which no two overlap adds up to the number of rows with a
+/// cell, and to the sum of their numbers; and the sums of the parts of a list, to those of the whole.
+pub fn zone_sums_add_up()
+    ensures { ZoneSumsPrintedAddUp }
+{
+    counts_add_up();
     totals_are_lawful();
 }

@@ -9,22 +9,25 @@ ghost use Rattle.h3_command.specs.AreaCounts.{AreaCountsPrintedAddUp};
 ghost use Rattle.h3_command.specs.AreaSums.{AreaSumsInParts};
 ghost use Rattle.h3_command.specs.SumAnswers.{AreaSumsPrintedAddUp};
 ghost use Rattle.h3_requests.specs.Rows.{is_counted_if};
-ghost use Rattle.h3_command.specs.Answer.{area_counts_request, reads_list, reads_table, request, request_of, summed};
+ghost use Rattle.h3_command.specs.Answer.{area_counts_request, reads_list, reads_table, request, request_of, summed, zone_counts_request};
 ghost use Rattle.h3_command.specs.Files.{CountsPrintedAddUp};
 ghost use Rattle.h3_command.specs.Join.{CellsGetTheirNames, NamesAreOfRows, NamesDiffer, OneNameEach, OthersGetNone};
 ghost use Rattle.h3_command.specs.NewColumns.{AnswersAreWords, ErrorNamesAreFields, ErrorNamesAreKept, NamesAreKept, RowsStandOnce, TitlesAreFields, WordPairsAreKept, WordPairsAreUncut, WordsAreFields, WordsAreKept};
 ghost use Rattle.h3_command.specs.Run.{Ends, Runs};
+ghost use Rattle.h3_command.specs.ZoneSums.{ZoneSumsPrintedAddUp};
 
 use crate::area_counts::count_over_areas;
 use crate::area_sums::sum_over_areas;
 use crate::areas::answer_over_areas;
 use crate::by::{answer_lists, answer_numbered_lists};
+use crate::by_region::answer_combined;
 use crate::children::cells_to_children;
 use crate::file_query::FileQuery::*;
 use crate::file_query::answer_over_file;
 use crate::files::Combination::*;
 use crate::laws::{
     answers_are_fields, area_counts_add_up, area_sums_add_up, cells_get_their_names,
+    zone_sums_add_up,
 };
 use crate::per_index::write_answer_for;
 use crate::plan::{Plan, plan_of};
@@ -35,6 +38,7 @@ use crate::table_lists::TableLines::*;
 use crate::table_lists::answer_over_table;
 use crate::table_query::over_table;
 use crate::words_query::write_words_answer;
+use crate::zone_sums::sum_over_zones;
 use h3_lines::{RunError, report};
 use h3_regions::laws::counts_add_up;
 use h3_requests::Command::*;
@@ -69,6 +73,28 @@ fn count_by_areas<R: Source, T: Source, W: Sink>(
     }
 }
 
+/// Counts the cells of a list by zones without names, and adds up the numbers in a field of its rows, if it
+/// has rows, and that is asked.
+fn count_by_zones<R: Source, T: Source, W: Sink>(
+    alloc: Global,
+    tables: &Tables,
+    input: &mut R,
+    table: &mut T,
+    out: &mut W,
+) -> Result<(), RunError>
+    ensures { Ends (zone_counts_request tables.now (summed tables.now.list tables.now.sum))
+        (source_use R.left R.has_failed input.old input.new)
+        (source_use T.left T.has_failed table.old table.new) result
+        (sink_use W.taken W.has_failed out.old out.new) }
+{
+    match (&tables.list, &tables.sum) {
+        (Some(list), Some(field)) => {
+            sum_over_zones(alloc, &tables.file, list, field, input, table, out)
+        }
+        _ => answer_over_file(alloc, Counts, tables, input, table, out),
+    }
+}
+
 /// Does what a command asks that reads a file or a table and then a list, up to the line on standard
 /// error.
 fn run_file_then_list<R: Source, T: Source, W: Sink>(
@@ -87,15 +113,15 @@ fn run_file_then_list<R: Source, T: Source, W: Sink>(
 {
     let rows = &tables.list;
     match *command {
-        IntersectCells => answer_over_file(alloc, Combined(Shared), tables, input, table, out),
-        SubtractCells => answer_over_file(alloc, Combined(Left), tables, input, table, out),
+        IntersectCells => answer_combined(alloc, Shared, tables, input, table, out),
+        SubtractCells => answer_combined(alloc, Left, tables, input, table, out),
         AreCoveredCells => answer_over_file(alloc, Covered, tables, input, table, out),
         CellsToZones => match &tables.areas {
             None => answer_over_file(alloc, Zones, tables, input, table, out),
             Some(areas) => answer_over_areas(alloc, areas, rows, input, table, out),
         },
         CountCellsInZones => match &tables.areas {
-            None => answer_over_file(alloc, Counts, tables, input, table, out),
+            None => count_by_zones(alloc, tables, input, table, out),
             Some(areas) => count_by_areas(alloc, areas, rows, &tables.sum, input, table, out),
         },
         GridDisksUnsafe { k } => answer_over_table(alloc, Disk { k }, rows, input, table, out),
@@ -163,7 +189,8 @@ fn perform<R: Source, T: Source, W: Sink>(
 /// Like [`run`], but reads the list, and the file of cells, as rows if `tables` says how these are
 /// read and written. A command that answers line by line then writes each row of the list
 /// with the answer to its own cell beside it. One that answers about its list as a whole takes the cells
-/// of the rows as the list. Of the rows of a file the cells are taken; or, by `cellsToZones`, the cells
+/// of the rows as the list; or, if `tables.by` says which field divides the rows, it writes such an
+/// answer for each of the field's values. Of the rows of a file the cells are taken; or, by `cellsToZones`, the cells
 /// with their names, if `tables.areas` says how these are read. It then answers a cell with the name of its
 /// area, and two areas that overlap are an error before the list is read; or, if they may overlap, with the names
 /// of its areas, the one with the coarsest cell above it first.
@@ -197,6 +224,9 @@ pub fn run_over<R: Source, T: Source, W: Sink, E: Sink>(
     ensures area_counts { AreaCountsPrintedAddUp }
     ensures area_sums { AreaSumsPrintedAddUp }
     ensures sums_in_parts { AreaSumsInParts }
+
+    // The same of the counts and sums of zones without names.
+    ensures zone_sums { ZoneSumsPrintedAddUp }
 
     // Laws, whatever the rows: each stands in the output with the answers to its own cell, up to the row
     // that ends the answer, and the rows are the list again, as are the fields of a row without the new
@@ -242,6 +272,7 @@ pub fn run_over<R: Source, T: Source, W: Sink, E: Sink>(
     cells_get_their_names();
     area_counts_add_up();
     area_sums_add_up();
+    zone_sums_add_up();
     let ending = perform(alloc, command, tables, input, table, out);
     report(err, ending)
 }

@@ -20,10 +20,30 @@ pub(crate) trait RowNames {
     /// The names.
     ghost names: { Self → List (List ℕ) };
 
+    /// How many there are.
+    fn count(&self) -> usize
+        ensures { result ≡ length (names self.now) };
+
     /// The name with a number.
     fn name(&self, number: usize) -> &[u8]
         requires { number < length (names self.now) }
         ensures { result.now ≡ get_or (names self.now) number [] };
+}
+
+/// How a table of counts and sums is written.
+#[derive(Drop)]
+pub(crate) struct SumForm<'a> {
+    /// The byte between two fields.
+    pub(crate) separator: u8,
+
+    /// Whether there is a header.
+    pub(crate) has_header: bool,
+
+    /// The title of the column of names.
+    pub(crate) title: &'a [u8],
+
+    /// What stands in place of a name in the row of none.
+    pub(crate) none: &'a [u8],
 }
 
 /// Puts a count, the separator, a sum and a line feed into a block from the byte `at` on, and returns where

@@ -90,7 +90,7 @@ fn table_options(alloc: Global, columns: Columns) -> Result<TableOptions, AllocE
 type Both = (Columns, Columns);
 
 /// The options of both tables; `-` is written for none.
-fn options(alloc: Global, both: Both) -> Result<Tables, AllocError> {
+fn options(alloc: Global, both: Both, overlapping: bool) -> Result<Tables, AllocError> {
     let list = list_options(alloc, both.1)?;
     let table = table_options(alloc, both.0)?;
     let none = String::from_str(alloc, "-")?;
@@ -102,7 +102,7 @@ fn options(alloc: Global, both: Both) -> Result<Tables, AllocError> {
         areas: Some(AreaOptions {
             table,
             none,
-            overlapping: false,
+            overlapping,
         }),
     })
 }
@@ -115,7 +115,7 @@ fn over_areas(
     most: usize,
     failing: Failing,
 ) -> Result<Outcome, AllocError> {
-    let tables = options(alloc, both)?;
+    let tables = options(alloc, both, false)?;
     Ok(over_tables(alloc, row, Some(&tables), most, failing))
 }
 
@@ -417,6 +417,72 @@ fn refuses(alloc: Global, both: Both, row: &FileRow, status: u8) -> Result<bool,
     Ok(true)
 }
 
+/// Tables whose areas may overlap, and lists, and their counts.
+static OVERLAPPING: [(Both, FileRow); 4] = [
+    // each cell in each of its areas, once in each, and in none if it is in no area
+    (
+        (Columns::Named, Columns::Bare),
+        (
+            Command::CountCellsInZones,
+            "zone,cell\nnorth,85283473fffffff\nall,85283477fffffff\nall,8428347ffffffff\n",
+            "85283473fffffff\n85283477fffffff\n8528340ffffffff\n85283473fffffff\n8428347ffffffff\n",
+            "zone,count\nnorth,2\nall,4\n-,1\n",
+            "",
+        ),
+    ),
+    (
+        (Columns::Second, Columns::Second),
+        (
+            Command::CountCellsInZones,
+            "b,85283473fffffff\na,85283473fffffff\nc,8009fffffffffff\nb,8428347ffffffff\n",
+            "1,862834737ffffff\n2,\n3,85283477fffffff\n",
+            "b,2\na,1\nc,0\n-,0\n",
+            "",
+        ),
+    ),
+    // areas that do not overlap, and no areas
+    (
+        (Columns::Named, Columns::Named),
+        (
+            Command::CountCellsInZones,
+            ZONES,
+            POINTS,
+            "zone,count\nnorth,1\n\"south, old\",1\n-,1\n",
+            "",
+        ),
+    ),
+    (
+        (Columns::Second, Columns::Bare),
+        (
+            Command::CountCellsInZones,
+            "",
+            "85283473fffffff\n",
+            "-,1\n",
+            "",
+        ),
+    ),
+];
+
+/// Whether the counts of areas that may overlap are those of a row, in pieces of each size, with one flush.
+fn counts_overlapping(alloc: Global, both: Both, row: &FileRow) -> Result<bool, AllocError> {
+    let tables = options(alloc, both, true)?;
+    for most in &PIECES {
+        let run = over_tables(alloc, row, Some(&tables), *most, WELL);
+        if run.out.flushes() != 1 || !run.is(row.3, row.4, 0) {
+            return Ok(false);
+        }
+    }
+    Ok(true)
+}
+
+#[test]
+fn cells_are_counted_by_areas_that_overlap(rt: HostRuntime) {
+    for (number, (both, row)) in OVERLAPPING.iter().enumerate() {
+        let right = counts_overlapping(rt.alloc(), *both, row);
+        expect_row(&rt, number, matches!(right, Ok(true)));
+    }
+}
+
 /// Whether a fault at each pull of the table ends the run before the list is read, and one at each pull
 /// of the list, with nothing written.
 fn stops_at_a_read(alloc: Global, both: Both, row: &FileRow) -> Result<bool, AllocError> {
@@ -510,7 +576,7 @@ fn counts_long_names(alloc: Global, most: usize) -> Result<bool, AllocError> {
     let mut whole = long_rows(alloc, true)?;
     whole.extend_from_slice(b"-,1\n")?;
     let list = b"85283473fffffff\n85283463fffffff\n85283473fffffff\n8428347ffffffff\n";
-    let tables = options(alloc, (Columns::Second, Columns::Bare))?;
+    let tables = options(alloc, (Columns::Second, Columns::Bare), false)?;
     let mut input = FaultySource::new(list, 65536, NO_FAULT);
     let mut table = FaultySource::new(&file, 65536, NO_FAULT);
     let mut out: FaultySink<80000> = FaultySink::new(most, NO_FAULT);

@@ -85,10 +85,13 @@ returns g c =
     let start = subst (λ l. AreAreaCounts areas [] l 0) (sym zeros) (nothing_counted areas (length spans)) in
     let told : AreAreaCounts areas cells counts others = more [] start in
     let size : length counts ≡ length names =
-    long ∙ ap length zeros ∙ length-replicate (length spans) 0 ∙ sym (length-map spans (span_in c.args.names.now.bytes.items)) in
+    long ∙ ap length zeros ∙ length-replicate (length spans) 0
+    ∙ sym (length-map spans (span_in c.args.names.now.bytes.items)) in
     let rows = counts_named names none areas cells counts others size told in
-    let wrote : Writes (written (counts_table options.table.rows.separator title (named_counts names counts (length counts) ++ (none, others) ∷ []))) c.write_area_counts.result out =
-    rw (c.header_title-title.ensures, c.deref-2.ensures.value, c.as_bytes.ensures.value) at c.write_area_counts.ensures in
+    let wrote : Writes (written (counts_table options.table.rows.separator title
+    (named_counts names counts (length counts) ++ (none, others) ∷ []))) c.write_area_counts.result out =
+    rw (c.header_title-title.ensures, c.deref-2.ensures.value, c.as_bytes.ensures.value) at c.write_area_counts.ensures
+    in
     let answered =
     subst (λ r. Writes
     (written (counts_table options.table.rows.separator title r)) c.write_area_counts.result out) rows wrote in

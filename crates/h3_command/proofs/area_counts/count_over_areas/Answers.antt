@@ -1,4 +1,4 @@
-use Rattle.std.proofs.Common.{false, inr, refl}
+use Rattle.std.proofs.Common.{inr, refl}
 use Rattle.std.proofs.KnownBytes.{Keeps-refl}
 use Rattle.std.proofs.lemmas.Result.{err_from_is_err_and}
 use Rattle.h3_lines.specs.Reads.{source_use}
@@ -21,7 +21,7 @@ pub returns-in_err-table : goal.returns-in_err-table
 returns-in_err-table g c =
     let p = err_from_is_err_and c.from_residual.result c.from_residual.ensures.1 in
     let (bytes, held, refused) = c.in_err-table.ensures.refused in
-    rw (p.1, p.2) (bytes, held, inr (refused false, (refl, refl), (Keeps-refl _, refl)))
+    rw (p.1, p.2) (bytes, held, inr (refused c.args.options.now.overlapping, (refl, refl), (Keeps-refl _, refl)))
 
 pub returns : goal.returns
 returns g c =
@@ -31,6 +31,6 @@ returns g c =
     let out = sink_use g.W.Sink.taken g.W.Sink.has_failed c.args.out.now c.count_areas.new.out in
     let options = c.args.options.now in
     let list = c.args.list.now in
-    ends_judged false (names_table options.table) (λ entries. EndsNumberedList (list_form list)
+    ends_judged options.overlapping (names_table options.table) (λ entries. EndsNumberedList (list_form list)
     (area_counts_answer options list entries) input c.count_areas.result out)
     bytes entries input file c.count_areas.result out held reads (c.count_areas.ensures entries holds)

@@ -34,8 +34,15 @@ returns-clause-ok g c =
     let held = take c.args.end block in
     let field : List ℕ = name ++ last ∷ [] in
     let one : take 1 (set block 0 last) ≡ last ∷ [] = take_more_set block 0 last (omega (arith, c.told-block)) in
-    let own : Moves g.W.Sink.taken g.W.Sink.has_failed field (take 1 (set block 0 last)) c.write_all.new.out c.write_all-2.new.out =
-    record { part = name; split = ap (λ l. name ++ l) (sym one); grown = c.in_ok-write_all-2.ensures.written; sound = c.in_ok-write_all-2.ensures.ok } in
+    let own : Moves g.W.Sink.taken g.W.Sink.has_failed field (take 1 (set block 0 last)) c.write_all.new.out
+    c.write_all-2.new.out =
+    record {
+      part = name;
+      split = ap (λ l. name ++ l) (sym one);
+      grown = c.in_ok-write_all-2.ensures.written;
+      sound =
+          c.in_ok-write_all-2.ensures.ok;
+    } in
     moves_then g.W.Sink.taken g.W.Sink.has_failed held [] field _ _ _ _
     (moves_all g.W.Sink.taken g.W.Sink.has_failed held _ _ c.in_ok-write_all.ensures.written
     c.in_ok-write_all.ensures.ok) own

@@ -35,7 +35,8 @@ loop-number-preserved g c =
       length-map c.args.names.now.spans.items (span_in c.args.names.now.bytes.items),
     ) in
     let name : c.unwrap_or-name.result.now ≡ get_or names number [] =
-    ap (λ b. b.now) c.unwrap_or-name.ensures ∙ name_there (λ b. b.now) c.get.result _ names number there c.get.ensures.some c.get.ensures.none in
+    ap (λ b. b.now) c.unwrap_or-name.ensures ∙ name_there (λ b. b.now) c.get.result _ names number there
+    c.get.ensures.some c.get.ensures.none in
     let held = take c.loop-number.last c.loop-number.block in
     let row =
     subst (λ l. Moves g.W.Sink.taken g.W.Sink.has_failed
@@ -61,7 +62,8 @@ returns-in_err-last-clause-err g c =
       length-map c.args.names.now.spans.items (span_in c.args.names.now.bytes.items),
     ) in
     let name : c.unwrap_or-name.result.now ≡ get_or names number [] =
-    ap (λ b. b.now) c.unwrap_or-name.ensures ∙ name_there (λ b. b.now) c.get.result _ names number there c.get.ensures.some c.get.ensures.none in
+    ap (λ b. b.now) c.unwrap_or-name.ensures ∙ name_there (λ b. b.now) c.get.result _ names number there
+    c.get.ensures.some c.get.ensures.none in
     let held = take c.loop-number.last c.loop-number.block in
     let out = sink_use g.W.Sink.taken g.W.Sink.has_failed c.loop-number.out c.put_row.new.out in
     let fails =

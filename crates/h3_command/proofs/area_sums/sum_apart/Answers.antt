@@ -1,9 +1,10 @@
-use Rattle.std.proofs.Common.{◌≡◌, ◌∙◌, None, Some, ap, inr, length, refl, rules, sym}
+use Rattle.std.proofs.Common.{◌≡◌, ◌∙◌, None, Some, ap, inr, length, refl, rules, sym, All, subst, ◌<◌}
 use Rattle.std.proofs.KnownBytes.{Keeps-refl}
+use Rattle.std.proofs.lemmas.List.{length-map}
 use Rattle.h3_lines.specs.Reads.{source_use}
 use Rattle.h3_lines.specs.Write.{sink_use}
 use Rattle.h3_regions.specs.Refusals.{areas_refusal}
-use Rattle.h3_rows.specs.Areas.{area_cells}
+use Rattle.h3_rows.specs.Areas.{area_cells, span_in}
 use Rattle.h3_rows.specs.Named.{table_of}
 use Rattle.h3_rows.specs.declared.table.FieldContent.TheVariants.{Number}
 use Rattle.h3_command.specs.Areas.{overlap_error}
@@ -13,7 +14,9 @@ use Rattle.h3_command.proofs.area_sums.sum_apart.Goals as goal
 pub sum_found-requires-clause-small : goal.sum_found-requires-clause-small
 sum_found-requires-clause-small g c =
     let numbers = rw c.deref_mut.ensures.value at c.in-Ok.ensures.numbers in
-    numbers (length c.args.table.now.names.spans.items) c.requires.small
+    let names = c.args.table.now.names in
+    subst (λ n. All (λ p. p.1 < n) c.in-Ok.areas) (sym (length-map names.spans.items (span_in names.bytes.items)))
+    (numbers (length names.spans.items) c.requires.small)
 
 pub returns-in-Ok : goal.returns-in-Ok
 returns-in-Ok g c = λ zones holds.
@@ -25,7 +28,13 @@ returns-in-Ok g c = λ zones holds.
     c.args.list.now zones c.args.table.now c.in-Ok.areas c.name_of_column-title.result.now input c.sum_found.result
     out
     holds (ap (λ b. overlap_error b c.args.table.now.cells.items) c.requires.may_not
-    ∙ free) alike c.name_of_column-title.ensures c.sum_found.ensures
+    ∙ free) alike c.name_of_column-title.ensures
+    (rw (
+      c.area_form-form.ensures.separator,
+      c.area_form-form.ensures.header,
+      c.area_form-form.ensures.title,
+      c.area_form-form.ensures.none,
+    ) at c.sum_found.ensures)
 
 pub returns : goal.returns
 returns g c = λ zones holds.

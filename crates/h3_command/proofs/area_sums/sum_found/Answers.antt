@@ -1,18 +1,12 @@
-use Rattle.std.proofs.Common.{◌≡◌, ◌++◌, ◌∷◌, [], ◌∙◌, ap, arith, if◌then◌else◌, inl, inr, length, List, None, Option, option_map, refl, replicate, rules, Some, string_bytes, subst, sym, unwrap_or, codes, ℕ}
-use Rattle.std.proofs.lemmas.Grind.{common_steps}
+use Rattle.std.proofs.Common.{◌≡◌, [], ◌∙◌, ap, arith, inl, inr, length, refl, subst, unwrap_or, codes}
 use Rattle.std.proofs.KnownBytes.{Keeps-refl}
-use Rattle.std.proofs.lemmas.List.{length-map, length-replicate}
 use Rattle.std.proofs.lemmas.Result.{err_from_is_err_and}
-use Rattle.h3_lines.specs.Answer.{Answer, written}
+use Rattle.h3_lines.specs.Answer.{written}
 use Rattle.h3_lines.specs.Reads.{source_use}
 use Rattle.h3_lines.specs.Write.{Writes, sink_use}
-use Rattle.h3_lines.specs.declared.run_error.Fault.TheVariants.{Memory}
-use Rattle.h3_lines.specs.declared.run_error.RunError.TheVariants.{Fault}
-use Rattle.h3_rows.specs.Areas.{names_in, span_in}
-use Rattle.h3_rows.specs.Named.{Entry, table_of}
+use Rattle.h3_rows.specs.Named.{table_of}
 use Rattle.h3_rows.specs.declared.table.FieldContent.TheVariants.{Number}
-use Rattle.h3_command.specs.AreaCounts.{has_header}
-use Rattle.h3_command.specs.SumAnswers.{amounts_among, area_sums, sum_titles, title_or_sum}
+use Rattle.h3_command.specs.SumAnswers.{amounts_among, sum_titles, title_or_sum}
 use Rattle.h3_command.specs.SumRows.{titles_of}
 use Rattle.h3_command.specs.SumTally.{AreAreaSums}
 use Rattle.h3_command.specs.SumTables.{sums_table}
@@ -45,33 +39,27 @@ pub returns : goal.returns
 returns g c =
     let (rows, all, more) = c.in_ok-tally.ensures.taken in
     let out = sink_use g.W.Sink.taken g.W.Sink.has_failed c.args.out.now c.write_sums.new.out in
-    let options = c.args.options.now in
+    let form = c.args.form.now in
     let list = c.args.list.now in
-    let separator = options.table.rows.separator in
-    let names = names_in c.args.names.now.bytes.items c.args.names.now.spans.items in
-    let spans = c.args.names.now.spans.items in
+    let names = g.N.RowNames.names c.args.names.now in
     let areas = g.F.FindAreas.areas c.args.finder in
     let sums = c.in_ok-tally.tally.sums.items in
     let others = c.in_ok-tally.tally.none in
-    let none = string_bytes options.none in
     let amounts = amounts_among list.quotes rows in
     let start =
     nothing_summed areas c.in_ok-sums.sums.items c.new.result c.in_ok-sums.ensures.counts c.in_ok-sums.ensures.units
     c.new.ensures.count c.new.ensures.units in
     let told : AreAreaSums areas amounts sums others = more.more [] start in
-    let counted : c.len.result ≡ length spans = first_of (search rules, grind (arith, common_steps)) in
     let size : length sums ≡ length names =
-    omega (arith, more.size, c.in_ok-sums.ensures.size, counted, length-map spans (span_in c.args.names.now.bytes.items)) in
-    let table = sums_named names none areas amounts sums others size told in
-    let header = has_header options (Some list) in
+    omega (arith, more.size, c.in_ok-sums.ensures.size, c.count.ensures) in
+    let table = sums_named names form.none.now areas amounts sums others size told in
     let sum_is : c.sum_title.result.now ≡ title_or_sum rows =
     c.sum_title.ensures ∙ ap (λ t. unwrap_or t (codes "sum")) more.title_is in
     let titled =
-    c.titles_if-titles.ensures
-    ∙ ap (λ b. titles_of b c.args.title.now c.sum_title.result.now) c.is_headed-header.ensures
-    ∙ ap (λ t. titles_of header c.args.title.now t) sum_is in
-    let wrote = rw (titled, c.deref.ensures.value, c.as_bytes.ensures.value) at c.write_sums.ensures in
+    c.titles_if-titles.ensures ∙ ap (λ t. titles_of form.has_header form.title.now t) sum_is in
+    let wrote = rw (titled, c.deref.ensures.value) at c.write_sums.ensures in
     let answered =
     subst (λ r. Writes (written
-    (sums_table separator (sum_titles header c.args.title.now rows) r)) c.write_sums.result out) table wrote in
+    (sums_table form.separator (sum_titles form.has_header form.title.now rows) r)) c.write_sums.result out) table wrote
+    in
     inl (rows, (c.in_ok-tally.ensures.sound, all), inl answered)

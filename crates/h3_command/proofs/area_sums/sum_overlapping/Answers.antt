@@ -1,6 +1,8 @@
-use Rattle.std.proofs.Common.{◌≡◌, None, ap, length}
+use Rattle.std.proofs.Common.{ap, length, All, subst, sym, ◌<◌}
+use Rattle.std.proofs.lemmas.List.{length-map}
 use Rattle.h3_lines.specs.Reads.{source_use}
 use Rattle.h3_lines.specs.Write.{sink_use}
+use Rattle.h3_rows.specs.Areas.{span_in}
 use Rattle.h3_rows.specs.Named.{table_of}
 use Rattle.h3_rows.specs.declared.table.FieldContent.TheVariants.{Number}
 use Rattle.h3_command.specs.Areas.{overlap_error}
@@ -10,7 +12,9 @@ use Rattle.h3_command.proofs.area_sums.sum_overlapping.Goals as goal
 pub sum_found-requires-clause-small : goal.sum_found-requires-clause-small
 sum_found-requires-clause-small g c =
     let numbers = rw c.deref_mut.ensures.value at c.of-areas.ensures.numbers in
-    numbers (length c.args.table.now.names.spans.items) c.requires.small
+    let names = c.args.table.now.names in
+    subst (λ n. All (λ p. p.1 < n) c.of-areas.result) (sym (length-map names.spans.items (span_in names.bytes.items)))
+    (numbers (length names.spans.items) c.requires.small)
 
 pub returns : goal.returns
 returns g c = λ zones holds.
@@ -22,4 +26,10 @@ returns g c = λ zones holds.
     c.sum_found.result out
     holds (ap (λ b. overlap_error b c.args.table.now.cells.items) c.requires.may)
     (permuted_alike c.areas_are_lawful.ensures.in_any_order c.args.table.now.cells.items c.of-areas.result same)
-    c.name_of_column-title.ensures c.sum_found.ensures
+    c.name_of_column-title.ensures
+    (rw (
+      c.area_form-form.ensures.separator,
+      c.area_form-form.ensures.header,
+      c.area_form-form.ensures.title,
+      c.area_form-form.ensures.none,
+    ) at c.sum_found.ensures)

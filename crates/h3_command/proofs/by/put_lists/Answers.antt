@@ -33,7 +33,8 @@ loop-number-preserved g c =
       length-map c.args.names.now.spans.items (span_in c.args.names.now.bytes.items),
     ) in
     let name : c.unwrap_or-name.result.now ≡ get_or names number [] =
-    ap (λ b. b.now) c.unwrap_or-name.ensures ∙ name_there (λ b. b.now) c.get.result _ names number there c.get.ensures.some c.get.ensures.none in
+    ap (λ b. b.now) c.unwrap_or-name.ensures ∙ name_there (λ b. b.now) c.get.result _ names number there
+    c.get.ensures.some c.get.ensures.none in
     let own =
     g.F.ListOfValue.listed c.args.function.now (part_of c.args.cells.now (get_or c.args.parts.now number (0, 0))) in
     let text : ℕ → List ℕ =
@@ -63,7 +64,8 @@ returns-in_err-last-clause-err g c =
       length-map c.args.names.now.spans.items (span_in c.args.names.now.bytes.items),
     ) in
     let name : c.unwrap_or-name.result.now ≡ get_or names number [] =
-    ap (λ b. b.now) c.unwrap_or-name.ensures ∙ name_there (λ b. b.now) c.get.result _ names number there c.get.ensures.some c.get.ensures.none in
+    ap (λ b. b.now) c.unwrap_or-name.ensures ∙ name_there (λ b. b.now) c.get.result _ names number there
+    c.get.ensures.some c.get.ensures.none in
     let own =
     g.F.ListOfValue.listed c.args.function.now (part_of c.args.cells.now (get_or c.args.parts.now number (0, 0))) in
     let text : ℕ → List ℕ =

@@ -19,6 +19,7 @@ returns-in_err-at-clause-err g c =
 pub returns-clause-ok : goal.returns-clause-ok
 returns-clause-ok g c =
     let rest = codes "cell" ++ 10 ∷ [] in
-    rw c.in-Some.is (subst (λ l. Moves g.W.Sink.taken g.W.Sink.has_failed l (take c.hold.result c.hold.new.block) c.args.out.now c.put_name.new.out)
+    rw c.in-Some.is (subst (λ l. Moves g.W.Sink.taken g.W.Sink.has_failed l (take c.hold.result c.hold.new.block)
+    c.args.out.now c.put_name.new.out)
     (row_parts [] c.in-Some.title.now c.args.separator rest)
     (moves_put g.W.Sink.taken g.W.Sink.has_failed _ _ rest _ _ _ c.in_ok-at.ensures.ok c.hold.ensures.held))

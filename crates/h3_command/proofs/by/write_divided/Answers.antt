@@ -43,9 +43,12 @@ returns-in-Ok g c =
     λ n. g.F.ListOfValue.listed c.args.function.now
     (part_of c.make_lists.new.cells (get_or c.make_lists.new.parts n (0, 0))) in
     let count : length names ≡ length c.make_lists.new.parts =
-    length-map c.args.names.now.spans.items (span_in c.args.names.now.bytes.items) ∙ omega (arith, c.requires.size, size, made.apart.size_is) in
-    let all = lists_made c.args.separator (g.F.ListOfValue.list_of c.args.function.now) names c.args.rows.now c.args.pairs.now (length c.make_lists.new.parts)
-    lists (λ n ln. made.made n (omega (arith, ln, made.apart.size_is))) (length c.make_lists.new.parts) 0 (omega arith) in
+    length-map c.args.names.now.spans.items (span_in c.args.names.now.bytes.items)
+    ∙ omega (arith, c.requires.size, size, made.apart.size_is) in
+    let all = lists_made c.args.separator (g.F.ListOfValue.list_of c.args.function.now) names c.args.rows.now
+    c.args.pairs.now (length c.make_lists.new.parts)
+    lists (λ n ln. made.made n (omega (arith, ln, made.apart.size_is))) (length c.make_lists.new.parts) 0 (omega arith)
+    in
     let header = title_row c.args.separator (option_map (λ t. t.now) c.args.title) in
     let is =
     ap (λ n. lists_of c.args.separator
@@ -85,9 +88,11 @@ returns-in-Err g c =
     let first = c.in-Err.ensures.refused c.args.pairs.now by in
     let names = names_in c.args.names.now.bytes.items c.args.names.now.spans.items in
     let count : length names ≡ length c.divide_cells.new.parts =
-    length-map c.args.names.now.spans.items (span_in c.args.names.now.bytes.items) ∙ omega (arith, c.requires.size, size) in
+    length-map c.args.names.now.spans.items (span_in c.args.names.now.bytes.items)
+    ∙ omega (arith, c.requires.size, size) in
     let header = title_row c.args.separator (option_map (λ t. t.now) c.args.title) in
-    let is = ap (λ n. lists_of c.args.separator (g.F.ListOfValue.list_of c.args.function.now) names c.args.rows.now c.args.pairs.now (range_with_len 0 n)) count
+    let is = ap (λ n. lists_of c.args.separator (g.F.ListOfValue.list_of c.args.function.now) names c.args.rows.now
+    c.args.pairs.now (range_with_len 0 n)) count
     ∙ lists_refused c.args.separator
     (g.F.ListOfValue.list_of c.args.function.now) names c.args.rows.now c.args.pairs.now
     (length c.divide_cells.new.parts)

@@ -25,7 +25,8 @@ pub returns-in-Err-clause-refused : goal.returns-in-Err-clause-refused
 returns-in-Err-clause-refused g c = λ pairs by.
     let lt : c.loop-k.k < length c.args.parts.now =
     omega (arith, c.loop-k-test.true, c.loop-k.invariant.apart.size_is) in
-    let own = own_cells (g.F.ListOfValue.list_of c.args.function.now) (g.F.ListOfValue.listed c.args.function.now) (g.F.ListOfValue.ready c.args.function.now)
+    let own = own_cells (g.F.ListOfValue.list_of c.args.function.now) (g.F.ListOfValue.listed c.args.function.now)
+    (g.F.ListOfValue.ready c.args.function.now)
     c.args.cells.now c.args.parts.now c.loop-k.cells c.loop-k.parts c.loop-k.k lt c.loop-k.invariant in
     record {
       within = lt;

@@ -55,8 +55,10 @@ returns-in_err-last-clause-err g c =
     ∙ flat_map-append line c.loop-cell.yielded (c.in-Some.cell ∷ drop (length c.loop-cell.yielded + 1) all) in
     subst (λ l. FailsPush l out) (append_assoc held done rest ∙ ap (λ l. held ++ l) (sym text))
     (push_then g.W.Sink.taken g.W.Sink.has_failed (held ++ done) _ rest _ _ _ c.loop-cell.invariant.moves
-    (subst (λ l. FailsPush l (sink_use g.W.Sink.taken g.W.Sink.has_failed c.loop-cell.out c.put_row.new.out)) (append_assoc _ (line c.in-Some.cell) later)
-    (push_more _ later (sink_use g.W.Sink.taken g.W.Sink.has_failed c.loop-cell.out c.put_row.new.out) c.in_err-last.ensures.err))))
+    (subst (λ l. FailsPush l (sink_use g.W.Sink.taken g.W.Sink.has_failed c.loop-cell.out c.put_row.new.out))
+    (append_assoc _ (line c.in-Some.cell) later)
+    (push_more _ later (sink_use g.W.Sink.taken g.W.Sink.has_failed c.loop-cell.out c.put_row.new.out)
+    c.in_err-last.ensures.err))))
 
 pub returns-clause-ok : goal.returns-clause-ok
 returns-clause-ok g c all e =

@@ -52,4 +52,5 @@ returns-in-Counts g c =
     let alike =
     counts_alike items listed (any.number items listed zones.apart zones.valid back)
     (λ x. any.covered items listed x back) in
-    subst (λ answer. EndsNumberedList (list_form c.args.rows.now) answer input c.answer_counts.result out) alike c.answer_counts.ensures)
+    subst (λ answer. EndsNumberedList (list_form c.args.rows.now) answer input c.answer_counts.result out) alike
+    c.answer_counts.ensures)

@@ -17,7 +17,9 @@ returns-in_err-walk_through-in-Ok-clause-err c =
     let read : ℤ = to_z w32 (of_z w32 c.args.k) in
     let same : read ≡ c.args.k = to_z-of_z w32 c.args.k (search rules) in
     let left = ring_left c.in-Ok.ring in
-    rw (p.1, p.2) (walk_begun (ring_refusal c.args.cell) (λ k. ring (link_of c.args.table.now) c.args.cell (unsigned_abs k)) c.args.k read left same c.in-Ok.ensures.refused c.in-Ok.ensures.items
+    rw (p.1, p.2) (walk_begun (ring_refusal c.args.cell)
+    (λ k. ring (link_of c.args.table.now) c.args.cell (unsigned_abs k)) c.args.k read left same
+    c.in-Ok.ensures.refused c.in-Ok.ensures.items
     ∙ c.in_err-walk_through-in-Ok.ensures.err left (YieldsList-from_first (λ x. x) ring_left left refl).runs)
 
 pub returns-clause-good : goal.returns-clause-good

@@ -1,4 +1,4 @@
-use Rattle.h3_command.proofs.Endings.{run_meets_contract}
+use Rattle.h3_command.proofs.RunEndings.{run_meets_contract}
 use Rattle.h3_command.proofs.PrintedCounts.{printed_counts}
 use Rattle.h3_command.proofs.run.run_over.Goals as goal
 

@@ -12,7 +12,10 @@ invariant_of-self c =
     let whole : take c.args.self.now.counts.len (new ++ drop (length new) old) ≡ new =
     first_of (search rules, grind (arith, common_steps)) in
     let long = ap length whole ∙ c.count_next_in_areas-self.auto.counts ∙ ap length c.deref_mut.ensures.value in
-    record { small = subst (λ n. (k : ℕ) (d : Address × ℕ) → k < length areas → (get_or areas k d).1 < n) (sym long) c.args.self.now.small }
+    record {
+      small = subst (λ n. (k : ℕ) (d : Address × ℕ) → k < length areas → (get_or areas k d).1 < n) (sym long)
+          c.args.self.now.small;
+    }
 
 pub returns-clause-ok : goal.returns-clause-ok
 returns-clause-ok c =

@@ -13,7 +13,8 @@ returns-clause-ok g c =
     let held = take c.args.end c.args.block.now in
     let all = uncompacted c.args.cells.now (unsigned_abs c.args.self.now.res) in
     let same : cells_left c.in-Ok.all ≡ all = search (rules, c.in-Ok.ensures.list) in
-    given_ok _ (λ list last. Moves g.W.Sink.taken g.W.Sink.has_failed (held ++ value_lines c.args.separator c.args.value.now list)
+    given_ok _ (λ list last. Moves g.W.Sink.taken g.W.Sink.has_failed
+    (held ++ value_lines c.args.separator c.args.value.now list)
     (take last c.put_rows.new.block) c.args.out.now c.put_rows.new.out) c.put_rows.result all c.put_rows.ensures.ok
     (YieldsList-from_first (λ x. x) cells_left all same).runs
 
@@ -23,5 +24,6 @@ returns-clause-err g c =
     let all = uncompacted c.args.cells.now (unsigned_abs c.args.self.now.res) in
     let same : cells_left c.in-Ok.all ≡ all = search (rules, c.in-Ok.ensures.list) in
     given_err _ (λ list. FailsPush (held ++ value_lines c.args.separator c.args.value.now list)
-    (sink_use g.W.Sink.taken g.W.Sink.has_failed c.args.out.now c.put_rows.new.out)) c.put_rows.result all c.put_rows.ensures.err
+    (sink_use g.W.Sink.taken g.W.Sink.has_failed c.args.out.now c.put_rows.new.out)) c.put_rows.result all
+    c.put_rows.ensures.err
     (YieldsList-from_first (λ x. x) cells_left all same).runs

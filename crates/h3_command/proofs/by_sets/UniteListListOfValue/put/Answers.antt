@@ -11,8 +11,10 @@ pub returns-clause-ok : goal.returns-clause-ok
 returns-clause-ok g c =
     let held = take c.args.end c.args.block.now in
     let same : c.copied.result.iter.rest.now ≡ c.args.cells.now = search rules in
-    given_ok _ (λ list last. Moves g.W.Sink.taken g.W.Sink.has_failed (held ++ value_lines c.args.separator c.args.value.now list)
-    (take last c.put_rows.new.block) c.args.out.now c.put_rows.new.out) c.put_rows.result c.args.cells.now c.put_rows.ensures.ok
+    given_ok _ (λ list last. Moves g.W.Sink.taken g.W.Sink.has_failed
+    (held ++ value_lines c.args.separator c.args.value.now list)
+    (take last c.put_rows.new.block) c.args.out.now c.put_rows.new.out) c.put_rows.result c.args.cells.now
+    c.put_rows.ensures.ok
     (YieldsList-from_copied (YieldsList-from_slice _ same)).runs
 
 pub returns-clause-err : goal.returns-clause-err
@@ -20,5 +22,6 @@ returns-clause-err g c =
     let held = take c.args.end c.args.block.now in
     let same : c.copied.result.iter.rest.now ≡ c.args.cells.now = search rules in
     given_err _ (λ list. FailsPush (held ++ value_lines c.args.separator c.args.value.now list)
-    (sink_use g.W.Sink.taken g.W.Sink.has_failed c.args.out.now c.put_rows.new.out)) c.put_rows.result c.args.cells.now c.put_rows.ensures.err
+    (sink_use g.W.Sink.taken g.W.Sink.has_failed c.args.out.now c.put_rows.new.out)) c.put_rows.result c.args.cells.now
+    c.put_rows.ensures.err
     (YieldsList-from_copied (YieldsList-from_slice _ same)).runs

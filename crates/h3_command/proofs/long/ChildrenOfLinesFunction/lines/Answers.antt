@@ -24,7 +24,8 @@ returns-clause-ok c =
     let r = c.in_ok-r.r in
     let found : cell_given c.args.index ≡ Ok cell = sym c.cell_given.ensures ∙ c.in_ok-cell.was in
     let whole : for_value (λ h. cell_to_children h res) (index_given c.args.index) ≡ Ok (descendants cell r) =
-    of_cell c.args.index res cell found ∙ unless_fits (descent_refusal (resolution cell)) (λ n. descendants cell n) res read r same c.in_ok-r.ensures.refused c.in_ok-r.ensures.is.0 in
+    of_cell c.args.index res cell found ∙ unless_fits (descent_refusal (resolution cell)) (λ n. descendants cell n) res
+    read r same c.in_ok-r.ensures.refused c.in_ok-r.ensures.is.0 in
     let all = items_below r cell in
     let gives : YieldsList (YieldsFirst child_lines_left) (λ x. x) c.lines_below.result all =
     YieldsList-from_first (λ x. x) child_lines_left all c.lines_below.ensures in

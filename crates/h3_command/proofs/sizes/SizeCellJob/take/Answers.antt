@@ -17,7 +17,8 @@ use Rattle.h3_command.proofs.sizes.SizeCellJob.take.Goals as goal
 
 is_resolution : (r : ℕ) → r ≤ 15 → resolution_of (pos r) ≡ Some r
 unfolding number_below
-is_resolution r few = let below : nat_lt r 16 ≡ true = first_of (search rules, grind (arith, common_steps)) in rw below refl
+is_resolution r few = let below : nat_lt r 16 ≡ true =
+    first_of (search rules, grind (arith, common_steps)) in rw below refl
 
 refusal : (m r : ℕ) → r ≤ 15 → descent_refusal m (pos r) ≡ (if nat_lt r m then Some ResDomain else None)
 refusal m r few = rw (is_resolution r few) refl
@@ -47,7 +48,8 @@ any_more p (b ∷ before) c = let rest = any_more p before c in grind (arith, co
 
 sum_more : (r : ℕ) (before : List Address) (c : Address)
     → length (uncompacted (before ++ c ∷ []) r) ≡ length (uncompacted before r) + length (descendants c r)
-sum_more r before c = let parts = flat_map-append (λ x. descendants x r) before (c ∷ []) in grind (arith, common_steps, parts)
+sum_more r before c = let parts = flat_map-append (λ x. descendants x r) before (c ∷ []) in
+    grind (arith, common_steps, parts)
 
 adds : (r : ℕ) (before : List Address) (c : Address) (finer : Bool) (total size : ℕ) → IsSizeOf r before finer total
     → nat_lt r (resolution c) ≡ false

@@ -10,7 +10,8 @@ returns-in-Some-clause-are c =
     let one : take 1 (set c.args.numbers.now 0 n) ≡ n ∷ [] =
     take_more_set c.args.numbers.now 0 n (omega (arith, c.requires)) in
     subst (AreAreasOf c.args.self.now.areas c.args.cell) (sym one)
-    (one_area c.args.self.now.areas c.args.cell n c.in-Some.ensures.lies (λ m h. let e : Some n ≡ Some m = c.in-Some.ensures.one m h in cc))
+    (one_area c.args.self.now.areas c.args.cell n c.in-Some.ensures.lies (λ m h. let e : Some n ≡ Some m =
+    c.in-Some.ensures.one m h in cc))
 
 pub returns-in-None-clause-are : goal.returns-in-None-clause-are
 returns-in-None-clause-are c =
