@@ -21,10 +21,10 @@ _h3_rows() {
     case $1 in
         compactCells | uncompactCells | uniteCells) echo --by --by-field --field --column --header --separator --csv --ragged ;;
         uncompactCellsSize) echo --field --column --header --separator --csv --ragged ;;
-        intersectCells | subtractCells) echo --region-column --region-field --field --column --header --separator --csv --ragged ;;
+        intersectCells | subtractCells) echo --region-column --region-field --by --by-field --field --column --header --separator --csv --ragged ;;
         areCoveredCells) echo --region-column --region-field --field --column --header --separator --csv --as --keep-going --errors --ragged ;;
         cellsToZones) echo --zone-column --zone-field --zone-name --zone-name-field --none --overlapping --field --column --header --separator --csv --as --keep-going --errors --ragged ;;
-        countCellsInZones) echo --zone-column --zone-field --zone-name --zone-name-field --none --sum --sum-field --field --column --header --separator --csv --ragged ;;
+        countCellsInZones) echo --zone-column --zone-field --zone-name --zone-name-field --none --overlapping --sum --sum-field --field --column --header --separator --csv --ragged ;;
         areValidCells | areValidDirectedEdges | getResolutions | getBaseCellNumbers | arePentagons | areResClassIII | cellsToParents | cellsToCenterChildren | cellsToLastChildren | cellsToChildren | cellsToChildrenSizes | cellsToChildPositions | gridDisksUnsafe | gridDisksDistancesUnsafe | gridRingsUnsafe | getDirectedEdgeOrigins | getDirectedEdgeDestinations | originsToDirectedEdges) echo --field --column --header --separator --csv --as --keep-going --errors --ragged ;;
     esac
 }

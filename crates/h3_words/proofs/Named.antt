@@ -12,7 +12,8 @@ use Rattle.h3_words.specs.Commands.{app, app_with, commands, options_of, word_of
 use Rattle.h3_requests.specs.declared.command.Command.{Command}
 use Rattle.h3_requests.specs.declared.command.Command.TheVariants.{ForEach}
 use Rattle.h3_requests.specs.declared.command.IndexFunction.TheVariants.{IsValidCell}
-use Rattle.h3_words.proofs.Leaf.{at_word, bytes_same, done_rules, idle_held, leaf_done, or_false}
+use Rattle.h3_words.proofs.Leaf.{at_word, idle_held, leaf_done}
+use Rattle.h3_words.proofs.OptionRules.{bytes_same, done_rules, or_false}
 use Rattle.h3_words.proofs.Names.{word_named}
 use Rattle.h3_words.proofs.Top.{app_done, first_met, first_state, keeps_stop, leaf, stopped_at, top_done}
 
@@ -69,7 +70,8 @@ top_turn : (ks : List Command) (k : Command) (rest : List Text) → IsFirst ks k
     × (walk (done_rules []) (names_of (app_done ks)) nothing_held (word_of k ∷ rest) ≡ stopped_at (word_of k) rest)
 unfolding walk_fault walked
 top_turn ks k rest first = (
-  ap (λ r. or_else (or_else (other_fault top_done (option_map (λ s. s.0) r) (word_of k) (idle_held [] None)) (step_fault top_done 1 (first_met (word_of k) r).0 (first_met (word_of k) r).1))
+  ap (λ r. or_else (or_else (other_fault top_done (option_map (λ s. s.0) r) (word_of k) (idle_held [] None))
+      (step_fault top_done 1 (first_met (word_of k) r).0 (first_met (word_of k) r).1))
       (walk_fault top_done (names_of (app_done ks)) (first_state (word_of k) r) rest)) (label_first ks k first)
       ∙ ap (λ b. or_else (or_else (cond b (kind.DisplayHelp ∷ kind.InvalidSubcommand ∷ []) []) [])
       (walk_fault top_done (names_of (app_done ks)) (stopped_at (word_of k) []) rest)) (and_false
@@ -89,7 +91,9 @@ fault_named ks k rest first =
     let names = names_of a in
     let turn = top_turn ks k rest first in
     ap₂ or_else turn.0
-    (ap (λ (w : Walk). or_else (entered_fault a w.stopped) (or_else (settle_fault (done_rules []) false w.held) (or_else (defaults_fault (settled (done_rules []) w.held).rows (done_rules []))
+    (ap (λ (w : Walk). or_else (entered_fault a w.stopped)
+    (or_else (settle_fault (done_rules []) false w.held)
+    (or_else (defaults_fault (settled (done_rules []) w.held).rows (done_rules []))
     (check_fault top_done (finished (done_rules []) w.held) (is_some (entered a w.stopped)))))) turn.1
     ∙ ap (λ (r : Option Shape). or_else (option_map_or (λ s. level_fault s [] nothing_held rest false []) r [])
     (check_fault top_done [] (is_some (option_map (λ s. rows_at s rest) r)))) first

@@ -29,7 +29,8 @@ use Rattle.h3_words.specs.Rows.{rows_agree}
 use Rattle.h3_words.specs.Options.{IsWithin, number_from, number_up_to, id_of, is_flag, is_required, long_name, parser_done, short_name}
 use Rattle.h3_words.specs.declared.options.CommandOption.{CommandOption}
 use Rattle.h3_words.specs.declared.options.CommandOption.TheVariants.{Cell}
-use Rattle.h3_words.proofs.Leaf.{Holds, by_flag, flag_is, rule_as, short_plain, takes_no_value, takes_value, unnamed, value_is, written_used, long_is, mine, no_default, short_is, walks, Differs, Which, at_word, bytes_same, differ, done_rule, done_rules, help_done, idle_held, leaf_done, longs_differ, or_false, row_of_option, shorts_differ, used_fresh, value_state, walk_end}
+use Rattle.h3_words.proofs.Leaf.{Holds, flag_is, short_plain, unnamed, value_is, long_is, mine, no_default, short_is, walks, at_word, idle_held, leaf_done, value_state, walk_end}
+use Rattle.h3_words.proofs.OptionRules.{by_flag, rule_as, takes_no_value, takes_value, written_used, Differs, Which, bytes_same, differ, done_rule, done_rules, help_done, longs_differ, or_false, row_of_option, shorts_differ, used_fresh}
 
 -- how a word names an option
 data NameForm (q : CommandOption) (word : Text) : Type 0 where
@@ -210,7 +211,8 @@ name_fault name os q word rows p takes is (short_form y no_long flags first rest
     (flags_fault (done_rules os) false 0)) first
     ∙ ap (λ r. short_fault (done_rules os) false r left (idle_held rows p) later) (by_short_of q y os is hit)
     ∙ ap (λ t. cond t (option_fault (done_rules os) false (done_rule q) (attached_value left) (idle_held rows p))
-    (or_else (react_fault (done_rules os) false (done_rule q) [] (idle_held rows p)) (later (reacted (done_rules os) (done_rule q) [] (idle_held rows p))))) (takes_value q takes)
+    (or_else (react_fault (done_rules os) false (done_rule q) [] (idle_held rows p))
+    (later (reacted (done_rules os) (done_rule q) [] (idle_held rows p))))) (takes_value q takes)
     ∙ ap (λ t. option_fault (done_rules os) false (done_rule q) (attached_value t) (idle_held rows p)) rest ∙ settles
 
 name_met : (os : List CommandOption) (q : CommandOption) (word : Text) (rows : List Row) (p : Option (Text × List Text))
@@ -335,7 +337,8 @@ not_yet : (rows : List Row) (u : Use) (us : List Use) → Fresh rows (u ∷ us) 
 not_yet rows u us fresh = go (has_row (id_of u.option) rows) (fresh u.option).0
   where
     go : (b : Bool) → (b ≡ true → uses_in u.option (u ∷ us) ≡ 0) → b ≡ false
-    go true h = let bad : 1 + uses_in u.option us ≡ 0 = sym (ap (λ b. cond b 1 0 + uses_in u.option us) (bytes_same (id_of u.option))) ∙ h refl in absurd (omega arith)
+    go true h = let bad : 1 + uses_in u.option us ≡ 0 =
+        sym (ap (λ b. cond b 1 0 + uses_in u.option us) (bytes_same (id_of u.option))) ∙ h refl in absurd (omega arith)
     go false h = refl
 
 has_row_added : (id : Text) (rows : List Row) (r : Row)
@@ -426,7 +429,8 @@ use_walks name os u us later rows p settles fresh fits = go (is_flag u.option) r
         → Passing name os (at_word (idle_held rows p) idle) (u.name ∷ value_words b u.value (words_of us))
     go true flag =
         let fine = flag_passes u.option now flag new in
-        let first = one_word name os (idle_held rows p) idle u.name _ (flag_word_passes name os u.option u.name rows p flag fits.0.listed form settles fine)
+        let first = one_word name os (idle_held rows p) idle u.name _
+        (flag_word_passes name os u.option u.name rows p flag fits.0.listed form settles fine)
         (flag_word_met os u.option u.name rows p flag fits.0.listed form) refl in
         let rows2 : now ++ row_of_option u.option (codes "true") ∷ [] ≡ used (done_rule u.option) [] now =
         sym (written_used u.option (codes "true") [] (by_flag flag) now ∙ used_fresh u.option (codes "true") now new) in
@@ -448,11 +452,13 @@ use_walks name os u us later rows p settles fresh fits = go (is_flag u.option) r
         (value_met os (id_of u.option) u.value h fits.0.plain) refl in
         let settles2 : settle_fault (done_rules os) false (idle_held now (Some (id_of u.option, u.value ∷ []))) ≡ [] =
         ap (λ r. option_map_or (λ a. use_fault false a (u.value ∷ []) now) r []) by_id ∙ fine in
-        let rows2 : now ++ row_of_option u.option u.value ∷ [] ≡ used_by_id (arg_by_id (done_rules os) (id_of u.option)) (u.value ∷ []) now =
+        let rows2 : now ++ row_of_option u.option u.value ∷ []
+        ≡ used_by_id (arg_by_id (done_rules os) (id_of u.option)) (u.value ∷ []) now =
         sym (ap (λ r. used_by_id r (u.value ∷ []) now) by_id ∙ used_fresh u.option u.value now new) in
         let fresh2 = subst (λ r. Fresh r us) rows2 (fresh_after now u us u.value fresh) in
         passes_on name os _ _ u.name (u.value ∷ words_of us) first.0 first.1
-        (passes_on name os _ _ u.value (words_of us) second.0 (second.1 ∙ value_state os u.option now u.value takes by_id)
+        (passes_on name os _ _ u.value (words_of us) second.0
+        (second.1 ∙ value_state os u.option now u.value takes by_id)
         (later now (Some (id_of u.option, u.value ∷ [])) settles2 fresh2 fits.1))
 
 uses_walk : (name : Text) (os : List CommandOption) (us : List Use) → Walks name os us
@@ -557,8 +563,11 @@ leaf_passes name os us fits once most =
     let done : (o : CommandOption) → Holds o (finished (done_rules os) end) (given o words) =
     λ o. subst (λ rs. Holds o rs (given o words)) (sym (no_default os (settled (done_rules os) end).rows))
     (holds o) in
-    let all_given : list_any (λ a. a.required && not (is_given a.id (finished (done_rules os) end))) (done_rules os) ≡ false =
-    none_missing os (finished (done_rules os) end) (λ o is needed. some_given o (finished (done_rules os) end) (given o words) (given_once os o us fits (once o is needed)) (done o)) in
+    let all_given : list_any (λ a. a.required && not (is_given a.id (finished (done_rules os) end))) (done_rules os)
+    ≡ false =
+    none_missing os (finished (done_rules os) end)
+    (λ o is needed. some_given o (finished (done_rules os) end) (given o words)
+    (given_once os o us fits (once o is needed)) (done o)) in
     ap₂ or_else pass.0 (ap₂ or_else pass.1 (ap₂ or_else (no_default_fault os (settled (done_rules os) end).rows)
     (ap (λ b. cond b (kind.MissingRequiredArgument ∷ []) []) all_given)))
 

@@ -30,7 +30,8 @@ use Rattle.h3_words.specs.declared.options.CommandOption.{CommandOption}
 use Rattle.h3_requests.specs.declared.command.Command.{Command}
 use Rattle.h3_words.proofs.Lexed as lexed
 use Rattle.h3_words.proofs.Lexed.{given_same}
-use Rattle.h3_words.proofs.Leaf.{Passes, Reads, leaf_reads, row_of_option}
+use Rattle.h3_words.proofs.Leaf.{Passes, Reads, leaf_reads}
+use Rattle.h3_words.proofs.OptionRules.{row_of_option}
 use Rattle.h3_words.specs.Rows.{AreFileOptions, HasAreas, HasFieldBy, HasFileOfCells, HasFileRows, HasRows, HasTables, IsFieldBy, IsFileField, Texts, default_separator, found_texts, has_names, named_separator, rows_agree, separator_of}
 use Rattle.h3_words.specs.declared.options.CommandOption.TheVariants.{Field, Column, Header, Separator, Csv, As, KeepGoing, Errors, Ragged, RegionColumn, RegionField, ZoneColumn, ZoneField, ZoneName, ZoneNameField, NoZone, Overlapping, Sum, SumField, By, ByField, Table, Region, Zones}
 use Rattle.h3_requests.specs.declared.rows.AreaOptions.{AreaOptions}

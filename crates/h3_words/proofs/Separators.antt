@@ -4,7 +4,7 @@ use Rattle.std.specs.Prelude.{unwrap_or}
 use Rattle.std.specs.Option.{option_map_or}
 use Rattle.clap.specs.Words.{Text}
 use Rattle.h3_words.specs.Rows.{Texts, cuts_errors, cuts_rows, cuts_sums, fits, has, has_company, has_names, is_one_field, names_fields_once, names_fit, names_have_company, needs, rows_agree, seconds_have_company, separator_of}
-use Rattle.h3_words.specs.declared.options.CommandOption.TheVariants.{As, NoZone, ZoneColumn, ZoneField, ZoneName, ZoneNameField, Overlapping, Sum, SumField}
+use Rattle.h3_words.specs.declared.options.CommandOption.TheVariants.{As, NoZone, ZoneColumn, ZoneField, ZoneName, ZoneNameField, Overlapping}
 
 first : (a b : Bool) → (a && b) ≡ true → a ≡ true
 first true b is = refl
@@ -68,9 +68,7 @@ pub names_need_cells : (text : Texts) → rows_agree text ≡ true → text Zone
 names_need_cells text agree field column =
     let by_name = needs (has text ZoneName) (has text ZoneColumn) in
     let by_number = needs (has text ZoneNameField) (has text ZoneField) in
-    let none =
-    needs (has text NoZone || has text Overlapping) (has_names text)
-    && needs (has text Sum || has text SumField) (has_names text) in
+    let none = needs (has text NoZone || has text Overlapping) (has_names text) in
     let kept : (by_name && (by_number && none)) ≡ true = names_kept text agree in (
       lacks (text ZoneNameField) (text ZoneField)
           (first by_number none (second by_name (by_number && none) kept)) field,

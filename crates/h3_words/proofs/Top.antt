@@ -10,7 +10,8 @@ use Rattle.clap.specs.Faults.{built_fault, defaults_fault, entered_fault, fault_
 use Rattle.clap.specs.declared.error.kind.ErrorKind.TheVariants as kind
 use Rattle.h3_words.specs.Commands.{commands, app, word_of, options_of}
 use Rattle.h3_words.specs.Options.{id_of}
-use Rattle.h3_words.proofs.Leaf.{Turn, alone, attached, dashes, other, at_word, cons_nil, dash_turn, done_rule, done_rules, idle_held, leaf_done, or_false, or_nil}
+use Rattle.h3_words.proofs.Leaf.{Turn, alone, attached, dashes, other, at_word, dash_turn, idle_held, leaf_done}
+use Rattle.h3_words.proofs.OptionRules.{cons_nil, done_rule, done_rules, or_false, or_nil}
 use Rattle.h3_words.specs.declared.options.CommandOption.{CommandOption}
 use Rattle.h3_words.specs.declared.options.CommandOption.TheVariants.{Cell}
 use Rattle.h3_requests.specs.declared.command.Command.{Command}
@@ -145,9 +146,11 @@ first_fault : (ks : List Command) (word : Text) (rest : List Text) (r : Option (
     × (walk_fault top_done (names_of (app_done ks)) (first_state word r) rest ≡ [])
 unfolding walk_fault walked
 first_fault ks word rest r e f =
-    let g : or_else (or_else (other_fault top_done (option_map (λ s. s.0) r) word (idle_held [] None)) (step_fault top_done 1 (first_met word r).0 (first_met word r).1))
+    let g : or_else (or_else (other_fault top_done (option_map (λ s. s.0) r) word (idle_held [] None))
+    (step_fault top_done 1 (first_met word r).0 (first_met word r).1))
     (walk_fault top_done (names_of (app_done ks)) (first_state word r) rest) ≡ [] =
-    sym (ap (λ x. or_else (or_else (other_fault top_done (option_map (λ s. s.0) x) word (idle_held [] None)) (step_fault top_done 1 (first_met word x).0 (first_met word x).1))
+    sym (ap (λ x. or_else (or_else (other_fault top_done (option_map (λ s. s.0) x) word (idle_held [] None))
+    (step_fault top_done 1 (first_met word x).0 (first_met word x).1))
     (walk_fault top_done (names_of (app_done ks)) (first_state word x) rest)) e) ∙ f in
     let one = or_nil _ _ g in
     let two = or_nil _ _ one.0 in
@@ -161,7 +164,8 @@ first_word ks word rest _ (is_name k same) e f =
     (k, rest, ap (λ x. x ∷ rest) (sym ((bytes_eq-Decides (word_of k) word).0 same)))
 first_word ks word rest _ no_name e f =
     let faults = first_fault ks word rest None e (or_nil _ _ f).0 in
-    absurd (none_case ks word rest (first_met word None) (dash_turn [] Cell word idle [] None (bytes_eq word (45 ∷ 45 ∷ [])) refl faults.0) faults.1 faults.2
+    absurd (none_case ks word rest (first_met word None)
+    (dash_turn [] Cell word idle [] None (bytes_eq word (45 ∷ 45 ∷ [])) refl faults.0) faults.1 faults.2
     (λ none. missing ks (word ∷ rest) (sym (ap (level_at ks (word ∷ rest)) (stop_is ks word rest None e ∙ none)) ∙ f)))
 
 enters : (ks : List Command) (words : List Text) → built_fault (app_done ks) nothing_held words ≡ [] → Enters words

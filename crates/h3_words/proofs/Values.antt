@@ -13,7 +13,7 @@ use Rattle.h3_words.specs.Commands.{Index, Number, Value, has_option, option_of,
 use Rattle.h3_words.specs.Values.{AreFound, IsAccepted, IsFound, HasPath, HasValues, IsIndex, IsNumber, IsValue, AreRead, IsRead}
 use Rattle.h3_words.specs.declared.options.CommandOption.{CommandOption}
 use Rattle.h3_requests.specs.declared.command.Command.{Command}
-use Rattle.h3_words.proofs.Leaf.{Differs, differ}
+use Rattle.h3_words.proofs.OptionRules.{Differs, differ}
 
 is_in : (o : CommandOption) (os : List CommandOption) → list_any (λ x. bytes_eq (id_of x) (id_of o)) os ≡ true
     → IsListed o os

@@ -186,9 +186,9 @@ call_of (command.UncompactCellsSize res) =
     record { word = codes "uncompactCellsSize"; values = Number option.Resolution res ∷ []; others = list_options }
 call_of command.UniteCells = record { word = codes "uniteCells"; values = []; others = by_options ++ list_options }
 call_of command.IntersectCells =
-    record { word = codes "intersectCells"; values = []; others = region_options ++ list_options }
+    record { word = codes "intersectCells"; values = []; others = region_options ++ by_options ++ list_options }
 call_of command.SubtractCells =
-    record { word = codes "subtractCells"; values = []; others = region_options ++ list_options }
+    record { word = codes "subtractCells"; values = []; others = region_options ++ by_options ++ list_options }
 call_of command.AreCoveredCells =
     record { word = codes "areCoveredCells"; values = []; others = region_options ++ line_options }
 call_of command.CellsToZones =
@@ -201,7 +201,7 @@ call_of command.CountCellsInZones =
     record {
       word = codes "countCellsInZones";
       values = [];
-      others = zone_options ++ name_options ++ sum_options ++ list_options;
+      others = zone_options ++ name_options ++ option.Overlapping ∷ sum_options ++ list_options;
     }
 call_of (command.GridDiskUnsafe cell k) =
     record {

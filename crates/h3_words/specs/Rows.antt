@@ -90,14 +90,12 @@ has_company text =
     && needs (has text Errors) (has text KeepGoing)))
 
 -- names_have_company text: each option of the names of zones has what it goes with: `--zone-name` the option
--- `--zone-column`, `--zone-name-field` the option `--zone-field`, and `--none`, `--overlapping`, `--sum` and `--sum-field`
--- names
+-- `--zone-column`, `--zone-name-field` the option `--zone-field`, and `--none` and `--overlapping` names
 abbrev pub names_have_company : Texts → Bool
 names_have_company text =
     needs (has text ZoneName) (has text ZoneColumn)
     && (needs (has text ZoneNameField) (has text ZoneField)
-    && (needs (has text NoZone || has text Overlapping) (has_names text)
-    && needs (has text Sum || has text SumField) (has_names text)))
+    && needs (has text NoZone || has text Overlapping) (has_names text))
 
 -- second_has_company text by_number by_name: the options of a second field of the list's rows have what they go with:
 -- that of its name a header, and that of its number the option `--field`

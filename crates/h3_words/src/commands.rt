@@ -8,10 +8,11 @@ ghost use Rattle.h3_words.specs.Commands.{Index, Number, app_with, commands, ent
 ghost use Rattle.h3_words.specs.Values.{AreFound, AreRead, HasFile, HasPath, IsRead};
 ghost use Rattle.h3_words.specs.declared.options.CommandOption.{CommandOption};
 
+use crate::entry::{COMMANDS, entry_of};
 use crate::help::{HELP, described};
 use crate::options::CommandFile;
 use crate::options::CommandOption::{self, *};
-use crate::table::{COMMANDS, commands, entry_of};
+use crate::table::commands;
 use clap::{ArgMatches, Command as Parser};
 use h3_requests::{Command, IndexFunction};
 use std::alloc::{AllocError, Global};

@@ -6,7 +6,8 @@ ghost use Rattle.clap.specs.declared.builder.command.Command.TheViews.{out-Comma
 ghost use Rattle.h3_words.specs.Commands.{word_of};
 
 use crate::commands::word;
-use crate::table::{about, commands, notes, usage};
+use crate::entry::{about, notes, usage};
+use crate::table::commands;
 use clap::Command as Parser;
 use h3_requests::Command;
 use std::alloc::Global;

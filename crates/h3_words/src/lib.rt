@@ -3,6 +3,7 @@
 #![tactic(auto)]
 
 mod commands;
+mod entry;
 mod help;
 mod options;
 mod rows;

@@ -295,10 +295,10 @@ macro_rules! options {
                 [of_rows!("overlapping", "overlapping", true, "With names: zones may overlap")]
                 ("zones may overlap");
             Sum
-                [of_rows!("sum", "sum", false, "With names and a header: column to add up")]
+                [of_rows!("sum", "sum", false, "With a header: column to add up")]
                 ("NAME", "the name of the column to add up", "name:");
             SumField
-                [number_of_field!("sum-field", "sum-field", "With names and --field: field to add up")]
+                [number_of_field!("sum-field", "sum-field", "With --field: field to add up")]
                 ("N", "the number of the field to add up", "number:");
             By
                 [of_rows!("by", "by", false, "With a header: split by this column")]

@@ -54,11 +54,9 @@ static OF_SECOND_FIELDS: [(CommandOption, CommandOption, &str, &str); 2] = [
 ];
 
 /// The options that go with names of zones, as a usage shows them.
-static OF_NAMES: [(CommandOption, &str); 4] = [
+static OF_NAMES: [(CommandOption, &str); 2] = [
     (NoZone, "--none <text>"),
     (Overlapping, "--overlapping"),
-    (Sum, "--sum <sum>"),
-    (SumField, "--sum-field <sum-field>"),
 ];
 
 /// The options that go with a header, as a usage shows them.
@@ -257,11 +255,9 @@ fn names_have_company(matches: &ArgMatches<'_>) -> bool
     let names = has_names(matches);
     let text = NoZone.is_given(matches);
     let overlapping = Overlapping.is_given(matches);
-    let sums = Sum.is_given(matches) || SumField.is_given(matches);
     (!ZoneName.is_given(matches) || column)
         && (!ZoneNameField.is_given(matches) || field)
         && (!(text || overlapping) || names)
-        && (!sums || names)
 }
 
 /// Whether the options of a second field of the list's rows have what they go with.

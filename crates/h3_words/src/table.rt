@@ -1,21 +1,5 @@
 //! The table of the commands: their words and options, what each asks for, and what help says of them.
 
-ghost use Rattle.std.specs.Prelude.{◌≡◌};
-ghost use Rattle.h3_words.specs.Commands.{entry_of, options_of, word_of};
-
-use crate::options::CommandOption::{self, *};
-use h3_requests::{Command, IndexFunction};
-
-/// A command: its word and its options.
-#[derive(Drop)]
-pub(crate) struct Entry<'a> {
-    /// The word that names the command.
-    pub(crate) word: &'a str,
-
-    /// The options that the command has.
-    pub(crate) options: &'static [CommandOption],
-}
-
 // These options, and those of a command that answers about its list as a whole.
 macro_rules! with_list_options {
     ($($own:ident),*) => {
@@ -248,11 +232,16 @@ macro_rules! commands {
                     usage: Some("h3 uniteCells < cells"),
                 };
             (IntersectCells)
-                { word: "intersectCells", options: with_list_options!(Region, RegionColumn, RegionField) }
+                {
+                    word: "intersectCells",
+                    options: with_list_options!(Region, RegionColumn, RegionField, By, ByField)
+                }
                 [lists "intersectCells              Intersection of the cells and a region, compacted"]
                 {
                     about: "Intersection of the cells on standard input and a region, compacted",
                     notes: "The cells of either may repeat and overlap.\n\
+                        With --by or --by-field there is a list for each value of that column, in the\n\
+                        order of their first rows: each line is a row of the value and a cell.\n\
                         With --region-column the file is a table with a header, with --region-field one\n\
                         without. Its errors:\n\
                         \x20 region: line 2: error 5: E_CELL_INVALID  its first faulty line, status 1\n\
@@ -263,15 +252,22 @@ macro_rules! commands {
                         Of a CSV file, whose cells are the list:\n\
                         h3 intersectCells --region region --csv --column cell < trips.csv\n\
                         Of a region in a CSV file:\n\
-                        h3 intersectCells --region region.csv --region-column cell --csv < cells",
+                        h3 intersectCells --region region.csv --region-column cell --csv < cells\n\
+                        One list for each value of a column:\n\
+                        h3 intersectCells --region region --csv --column cell --by driver < trips.csv",
                     usage: Some("h3 intersectCells --region <region> < cells"),
                 };
             (SubtractCells)
-                { word: "subtractCells", options: with_list_options!(Region, RegionColumn, RegionField) }
+                {
+                    word: "subtractCells",
+                    options: with_list_options!(Region, RegionColumn, RegionField, By, ByField)
+                }
                 [lists "subtractCells               The cells minus a region, compacted"]
                 {
                     about: "The cells on standard input minus a region, compacted",
                     notes: "The cells of either may repeat and overlap.\n\
+                        With --by or --by-field there is a list for each value of that column, in the\n\
+                        order of their first rows: each line is a row of the value and a cell.\n\
                         With --region-column the file is a table with a header, with --region-field one\n\
                         without. Its errors:\n\
                         \x20 region: line 2: error 5: E_CELL_INVALID  its first faulty line, status 1\n\
@@ -282,7 +278,9 @@ macro_rules! commands {
                         Of a CSV file, whose cells are the list:\n\
                         h3 subtractCells --region region --csv --column cell < trips.csv\n\
                         Of a region in a CSV file:\n\
-                        h3 subtractCells --region region.csv --region-column cell --csv < cells",
+                        h3 subtractCells --region region.csv --region-column cell --csv < cells\n\
+                        One list for each value of a column:\n\
+                        h3 subtractCells --region region --csv --column cell --by driver < trips.csv",
                     usage: Some("h3 subtractCells --region <region> < cells"),
                 };
             (AreCoveredCells)
@@ -339,7 +337,7 @@ macro_rules! commands {
                 {
                     word: "countCellsInZones",
                     options: with_list_options!(
-                        Zones, ZoneColumn, ZoneField, ZoneName, ZoneNameField, NoZone, Sum, SumField
+                        Zones, ZoneColumn, ZoneField, ZoneName, ZoneNameField, NoZone, Overlapping, Sum, SumField
                     )
                 }
                 [lists "countCellsInZones           Count the cells in each zone"]
@@ -349,9 +347,10 @@ macro_rules! commands {
                         in no zone. The zone of a cell is the one that is the cell or its ancestor.\n\
                         With --zone-name or --zone-name-field each row has a zone's name and its count,\n\
                         in the order of the file, under a header if the file or the list has one; the\n\
-                        last has the text of --none (default: nothing).\n\
-                        With names and --sum or --sum-field each row ends with the exact sum of that\n\
-                        column over the cells that it counts; a blank field is 0:\n\
+                        last has the text of --none (default: nothing). With --overlapping, zones with\n\
+                        names may overlap: a cell counts in each of its zones.\n\
+                        With --sum or --sum-field the answer is a table too, and each row ends with the\n\
+                        exact sum of that column over the cells that it counts; a blank field is 0:\n\
                         \x20 line 2: sum: not a number               its first bad number, status 1\n\
                         With --zone-column the file is a table with a header, with --zone-field one\n\
                         without. Its errors:\n\
@@ -686,119 +685,5 @@ macro_rules! commands {
 }
 
 pub(crate) use commands;
-
-// A value that counts for nothing, for a field of a `Command`.
-macro_rules! blank {
-    (cell) => {
-        None
-    };
-    (to) => {
-        None
-    };
-    (edge) => {
-        None
-    };
-    (res) => {
-        0
-    };
-    (k) => {
-        0
-    };
-    (position) => {
-        0
-    };
-}
-
-// The commands of all rows, with blank values.
-macro_rules! blank_commands {
-    ($(
-        ($command:ident $({ $($field:ident),* })? $(($function:ident $({ $($given:ident),* })?))?)
-        $entry:tt $line:tt $texts:tt;
-    )*) => {
-        &[$(
-            Command::$command
-                $({ $($field: blank!($field)),* })?
-                $((IndexFunction::$function $({ $($given: blank!($given)),* })?))?
-        ),*]
-    };
-}
-
-/// A command of each name, in the order of their table. It stands for all commands of that name: its
-/// values are blank.
-pub(crate) static COMMANDS: &[Command] = commands!(blank_commands!);
-
-// A part of a row.
-macro_rules! part {
-    (word { word: $word:expr, options: $options:expr } $texts:tt) => {
-        $word
-    };
-    (options { word: $word:expr, options: $options:expr } $texts:tt) => {
-        $options
-    };
-    (about $entry:tt { about: $about:expr, notes: $notes:expr, usage: $usage:expr, }) => {
-        $about
-    };
-    (notes $entry:tt { about: $about:expr, notes: $notes:expr, usage: $usage:expr, }) => {
-        $notes
-    };
-    (usage $entry:tt { about: $about:expr, notes: $notes:expr, usage: $usage:expr, }) => {
-        $usage
-    };
-}
-
-// That part of the row of a command.
-macro_rules! part_of_command {
-    ($value:ident $part:ident; $(
-        ($command:ident $({ $($field:ident),* })? $(($function:ident $({ $($given:ident),* })?))?)
-        $entry:tt $line:tt $texts:tt;
-    )*) => {
-        match $value {
-            $(Command::$command
-                $({ $($field: _),* })?
-                $((IndexFunction::$function $({ $($given: _),* })?))? => part!($part $entry $texts)),*
-        }
-    };
-}
-
-/// The word that names a command, as its row of the table has it.
-fn word_of<'a>(command: Command) -> &'a str
-    ensures { result.now ≡ word_of command }
-{
-    commands!(part_of_command! command word;)
-}
-
-/// The options that a command has, as its row of the table has them.
-fn options_of(command: Command) -> &'static [CommandOption]
-    ensures { result.now ≡ options_of command }
-{
-    commands!(part_of_command! command options;)
-}
-
-/// A command's word and options, as its row of the table has them.
-pub(crate) fn entry_of<'a>(command: Command) -> Entry<'a>
-    ensures { record {
-      word = result.word.now;
-      options = result.options.now;
-    } ≡ entry_of command }
-{
-    Entry {
-        word: word_of(command),
-        options: options_of(command),
-    }
-}
-
-/// What the help of a command begins with.
-pub(crate) fn about<'a>(command: Command) -> &'a str {
-    commands!(part_of_command! command about;)
-}
-
-/// What the help of a command ends with: its errors, in the order they are checked, and an example.
-pub(crate) fn notes<'a>(command: Command) -> &'a str {
-    commands!(part_of_command! command notes;)
-}
-
-/// The usage of a command that reads a list, or whose usage would be too long; `clap` makes that of any
-/// other.
-pub(crate) fn usage<'a>(command: Command) -> Option<&'a str> {
-    commands!(part_of_command! command usage;)
-}
+pub(crate) use with_line_options;
+pub(crate) use with_list_options;

@@ -13,10 +13,10 @@ ghost use Rattle.h3_words.specs.declared.options.CommandOption.{CommandOption};
 ghost use Rattle.h3_words.specs.declared.words.ArgsError.TheVariants.{Memory, Version};
 
 use crate::commands::{command_line, file, filled, named_by};
+use crate::entry::COMMANDS;
 use crate::help::list_usage;
 use crate::options::{CommandFile, OPTIONS};
 use crate::rows::{rows_agree, rows_fault, tables};
-use crate::table::COMMANDS;
 use clap::ArgMatches;
 use clap::error::ErrorKind;
 use h3_requests::{Command, Tables};

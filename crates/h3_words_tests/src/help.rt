@@ -230,7 +230,7 @@ fn help_groups_the_commands(rt: HostRuntime) {
 }
 
 /// Lines that ask for help of a command over a region or zones, and what it says of the file.
-static FILE_HELP: [(&str, &str); 25] = [
+static FILE_HELP: [(&str, &str); 26] = [
     (
         "h3 intersectCells --help",
         "\n  region: line 2: error 5: E_CELL_INVALID  its first faulty line, status 1\n",
@@ -294,9 +294,10 @@ static FILE_HELP: [(&str, &str); 25] = [
     ("h3 cellsToZones --help", " --overlapping "),
     (
         "h3 countCellsInZones --help",
-        "\nWith names and --sum or --sum-field each row ends with the exact sum of that\n\
-        column over the cells that it counts; a blank field is 0:\n",
+        "\nWith --sum or --sum-field the answer is a table too, and each row ends with the\n\
+        exact sum of that column over the cells that it counts; a blank field is 0:\n",
     ),
+    ("h3 countCellsInZones --help", " --overlapping "),
     (
         "h3 countCellsInZones --help",
         "\n  line 2: sum: not a number               its first bad number, status 1\n",
@@ -314,7 +315,8 @@ static FILE_HELP: [(&str, &str); 25] = [
         "h3 countCellsInZones --help",
         "\nWith --zone-name or --zone-name-field each row has a zone's name and its count,\n\
         in the order of the file, under a header if the file or the list has one; the\n\
-        last has the text of --none (default: nothing).\n",
+        last has the text of --none (default: nothing). With --overlapping, zones with\n\
+        names may overlap: a cell counts in each of its zones.\n",
     ),
     (
         "h3 countCellsInZones --help",

@@ -309,7 +309,7 @@ fn help_says_what_each_command_answers(rt: HostRuntime) {
 }
 
 /// Commands, the forms of their options, and what each is.
-static OPTION_TEXTS: [(&str, &str, &str); 35] = [
+static OPTION_TEXTS: [(&str, &str, &str); 36] = [
     (
         "h3 getResolution -h",
         "-c, --cell <cell>",
@@ -412,13 +412,18 @@ static OPTION_TEXTS: [(&str, &str, &str); 35] = [
     ),
     (
         "h3 countCellsInZones -h",
+        "--overlapping",
+        "With names: zones may overlap",
+    ),
+    (
+        "h3 countCellsInZones -h",
         "--sum <sum>",
-        "With names and a header: column to add up",
+        "With a header: column to add up",
     ),
     (
         "h3 countCellsInZones -h",
         "--sum-field <sum-field>",
-        "With names and --field: field to add up",
+        "With --field: field to add up",
     ),
     (
         "h3 uniteCells -h",

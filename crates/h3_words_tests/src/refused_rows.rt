@@ -4,7 +4,7 @@ use crate::expected::expect_all;
 use crate::refused_words::first_valid;
 
 /// Lines with a number out of range, an option twice, or an option without what it goes with.
-static INVALID: [&str; 104] = [
+static INVALID: [&str; 110] = [
     "h3 getResolutions --field 0",
     "h3 getResolutions --field 65536",
     "h3 getResolutions --field -1",
@@ -75,7 +75,10 @@ static INVALID: [&str; 104] = [
     "h3 cellsToZones --zones z --overlapping",
     "h3 cellsToZones --zones z --zone-column a --overlapping",
     "h3 cellsToZones --zones z --zone-field 1 --overlapping",
-    "h3 countCellsInZones --zones z --zone-column a --zone-name b --overlapping",
+    "h3 countCellsInZones --zones z --overlapping",
+    "h3 countCellsInZones --zones z --zone-column a --column b --overlapping",
+    "h3 countCellsInZones --zones z --column a --sum b --overlapping",
+    "h3 countCellsInZones --zones z --column a --sum b --none 0",
     "h3 cellsToZones --zones z --csv --column a --overlapping",
     "h3 cellsToZones --zones z --zone-column a --none b --overlapping",
     "h3 cellsToZones --zones z --zone-column a --zone-name b --overlapping --overlapping",
@@ -84,9 +87,10 @@ static INVALID: [&str; 104] = [
     "h3 countCellsInZones --zones z --zone-field 1 --zone-name-field 2 --field 1 --sum a",
     "h3 countCellsInZones --zones z --zone-field 1 --zone-name-field 2 --column a --sum-field 1",
     "h3 countCellsInZones --zones z --zone-field 1 --zone-name-field 2 --header --sum a",
-    "h3 countCellsInZones --zones z --column a --sum b",
-    "h3 countCellsInZones --zones z --field 1 --sum-field 2",
-    "h3 countCellsInZones --zones z --zone-column a --column b --sum c",
+    "h3 countCellsInZones --zones z --sum a",
+    "h3 countCellsInZones --zones z --zone-column a --sum-field 2",
+    "h3 countCellsInZones --zones z --zone-column a --field 1 --sum b",
+    "h3 countCellsInZones --zones z --column a --sum-field 2",
     "h3 countCellsInZones --zones z --zone-column a --zone-name b --sum a",
     "h3 countCellsInZones --zones z --zone-field 1 --zone-name-field 2 --field 1 --header --sum a --sum-field 1",
     "h3 countCellsInZones --zones z --zone-field 1 --zone-name-field 2 --column a --sum b --sum c",
@@ -100,8 +104,10 @@ static INVALID: [&str; 104] = [
     "h3 uncompactCells -r 6 --field 1 --by a",
     "h3 uniteCells --column a --by-field 1",
     "h3 uniteCells --header --by a",
-    "h3 intersectCells --region r --column a --by b",
-    "h3 subtractCells --region r --field 1 --by-field 2",
+    "h3 areCoveredCells --region r --column a --by b",
+    "h3 intersectCells --region r --column a --by-field 1",
+    "h3 subtractCells --region r --region-column a --by b",
+    "h3 intersectCells --region r --region-field 1 --by-field 2",
     "h3 uniteCells --field 1 --header --by a --by-field 1",
     "h3 uniteCells --column a --by b --by c",
     "h3 uniteCells --field 1 --by-field 0",
@@ -118,7 +124,7 @@ fn refuses_options_without_company(rt: HostRuntime) {
 }
 
 /// Lines with an unfit separator or name, a flag with a value, or an option of other commands.
-static UNFIT: [&str; 80] = [
+static UNFIT: [&str; 82] = [
     "h3 cellsToZones --zones z --region-column a",
     "h3 intersectCells --region r --zone-field 1",
     "h3 compactCells --zone-column a",
@@ -137,6 +143,8 @@ static UNFIT: [&str; 80] = [
     "h3 cellsToZones --zones z --zone-column a --zone-name b --overlapping true",
     "h3 cellsToZones --zones z --zone-column a --zone-name b --overlap",
     "h3 areCoveredCells --region r --region-column a --overlapping",
+    "h3 countCellsInZones --zones z --zone-column a --zone-name b --overlapping=true",
+    "h3 countCellsInZones --zones z --csv --column a --separator . --sum b",
     "h3 compactCells --column a --overlapping",
     "h3 countCellsInZones --zones z --zone-field 1 --zone-name-field 2 --column a --sum",
     "h3 countCellsInZones --zones z --zone-field 1 --zone-name-field 2 --csv --column a --separator . --sum b",

@@ -4,7 +4,7 @@ use crate::expected::expect_all;
 use crate::refused_words::first_unsaid;
 
 /// Invalid lines, and what is said of each.
-static SAID: [(&str, &str); 48] = [
+static SAID: [(&str, &str); 49] = [
     (
         "h3 getResolutions --field -1",
         "invalid value '-1' for '--field <number>': -1 is not in 1..=65535",
@@ -151,9 +151,13 @@ static SAID: [(&str, &str); 48] = [
         "invalid value '-3' for '--sum-field <sum-field>': -3 is not in 1..=65535",
     ),
     (
-        "h3 countCellsInZones --zones z --column a --sum b",
-        "error: the argument '--sum <sum>' cannot be used without '--zone-name <zone-name>' or \
+        "h3 countCellsInZones --zones z --column a --sum b --overlapping",
+        "error: the argument '--overlapping' cannot be used without '--zone-name <zone-name>' or \
         '--zone-name-field <name-field>'\n",
+    ),
+    (
+        "h3 countCellsInZones --zones z --zone-field 1 --sum-field 2",
+        "error: the argument '--sum-field <sum-field>' cannot be used without '--field <number>'\n",
     ),
     (
         "h3 cellsToZones --zones z --column a --sum b",

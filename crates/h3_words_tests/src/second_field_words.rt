@@ -7,7 +7,7 @@ use h3_requests::CellField;
 use std::alloc::Global;
 
 /// Lines over rows of which a field is added up, or none, and that field.
-static SUMS: [(&str, Option<Field>); 10] = [
+static SUMS: [(&str, Option<Field>); 13] = [
     (
         "h3 countCellsInZones --zones z --zone-column a --zone-name b --csv --column cell --sum amount",
         Some(Field::Column("amount")),
@@ -35,6 +35,18 @@ static SUMS: [(&str, Option<Field>); 10] = [
     (
         "h3 countCellsInZones --zones z --zone-column a --zone-name b --column cell --sum cell --none 0",
         Some(Field::Column("cell")),
+    ),
+    (
+        "h3 countCellsInZones --zones z --csv --column cell --sum amount",
+        Some(Field::Column("amount")),
+    ),
+    (
+        "h3 countCellsInZones --zones z --zone-column a --field 1 --sum-field 2",
+        Some(Field::Number(2)),
+    ),
+    (
+        "h3 countCellsInZones --zones z --zone-field 1 --zone-name-field 2 --overlapping --column cell --sum c",
+        Some(Field::Column("c")),
     ),
     ("h3 countCellsInZones --zones z --csv --column sum", None),
     (
@@ -73,7 +85,7 @@ fn reads_sums(rt: HostRuntime) {
 }
 
 /// Lines over rows that a field divides, or none, and that field.
-static BY: [(&str, Option<Field>); 12] = [
+static BY: [(&str, Option<Field>); 15] = [
     (
         "h3 compactCells --csv --column cell --by zone",
         Some(Field::Column("zone")),
@@ -102,6 +114,18 @@ static BY: [(&str, Option<Field>); 12] = [
     (
         "h3 uncompactCells --by-field 1 -r 6 --separator . --field 2",
         Some(Field::Number(1)),
+    ),
+    (
+        "h3 intersectCells --region r --csv --column cell --by zone",
+        Some(Field::Column("zone")),
+    ),
+    (
+        "h3 subtractCells --by-field 2 --region-column a --field 1 --region r",
+        Some(Field::Number(2)),
+    ),
+    (
+        "h3 subtractCells --region r --field 1 --header --by=region",
+        Some(Field::Column("region")),
     ),
     ("h3 compactCells --csv --column by", None),
     ("h3 uniteCells --field 1 --header", None),

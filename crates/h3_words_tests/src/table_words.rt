@@ -201,7 +201,7 @@ fn reads_zones_with_names(rt: HostRuntime) {
 }
 
 /// Lines over a table of zones with names, and whether these may overlap.
-static OVERLAPPING: [(&str, bool); 7] = [
+static OVERLAPPING: [(&str, bool); 9] = [
     (
         "h3 cellsToZones --zones z --zone-column a --zone-name b --overlapping",
         true,
@@ -225,6 +225,14 @@ static OVERLAPPING: [(&str, bool); 7] = [
     (
         "h3 cellsToZones --zones z --zone-column a --zone-name b --csv --column c --errors --keep-going",
         false,
+    ),
+    (
+        "h3 countCellsInZones --zones z --zone-column a --zone-name b --overlapping",
+        true,
+    ),
+    (
+        "h3 countCellsInZones --overlapping --zones z --zone-field 1 --zone-name-field 2 --csv --column c --sum d",
+        true,
     ),
     (
         "h3 countCellsInZones --zones z --zone-column a --zone-name overlapping",

@@ -10,7 +10,8 @@ use Rattle.h3_words.proofs.commands.command_line.Goals as goal
 pub loop-command-init : goal.loop-command-init
 loop-command-init c = ap app_of_fields c.disable_help_subcommand-parser.ensures
     ∙ ap (on_top (λ s. record s { disable_help_subcommand = true })) (ap app_of_fields c.subcommand_required.ensures
-    ∙ ap (on_top (λ s. record s { subcommand_required = true })) (ap app_of_fields c.override_help.ensures ∙ c.new.ensures.app))
+    ∙ ap (on_top (λ s. record s { subcommand_required = true }))
+    (ap app_of_fields c.override_help.ensures ∙ c.new.ensures.app))
 
 pub loop-command-preserved : goal.loop-command-preserved
 loop-command-preserved c = let made = c.in_ok-parser.ensures in let inner = c.in_ok-parser_of.ensures in

@@ -33,10 +33,12 @@ returns-in-Some-clause-rule c =
     ∙ ap (λ (e : OptionEntry). e.least) c.entry-entry.ensures in
     let most : end ≡ c.in-Some.most = c.new.ensures.end ∙ to_z-of_z w64 c.in-Some.most fits in
     let range : c.range.result ≡ between (number_from o) c.in-Some.most =
-    subst (λ p. NarrowsTo p (Some start) (Some end) c.range.result) c.value_parser.ensures c.range.ensures ∙ ap₂ between least most in
+    subst (λ p. NarrowsTo p (Some start) (Some end) c.range.result) c.value_parser.ensures c.range.ensures
+    ∙ ap₂ between least most in
     let parser : c.value_parser-in-Some.result.value_parser ≡ parser_for o =
     made.given.1 ∙ ap (λ p. Some p) (made.given.2 ∙ range)
-    ∙ ap (option_map (between (number_from o))) (sym c.in-Some.is ∙ ap (λ (e : OptionEntry). e.most) c.entry-entry.ensures) ∙ within o in
+    ∙ ap (option_map (between (number_from o)))
+    (sym c.in-Some.is ∙ ap (λ (e : OptionEntry). e.most) c.entry-entry.ensures) ∙ within o in
     let plain : false ≡ is_flag o = sym c.if-entry.false ∙ ap (λ (e : OptionEntry). e.is_flag) c.entry-entry.ensures in
     ap rule_of made.others
     ∙ ap (λ (r : Rule). record r
