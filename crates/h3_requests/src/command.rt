@@ -165,6 +165,11 @@ pub enum Command {
     /// How many cells of a list lie in each zone of a file, and how many in none.
     CountCellsInZones,
 
+    /// How many cells of a list each ancestor at a resolution has.
+    CountCellsInParents {
+        res: i32,
+    },
+
     /// The cells within a radius of a cell, over a base cell table.
     GridDiskUnsafe {
         cell: Option<u64>,

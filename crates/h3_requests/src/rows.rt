@@ -79,7 +79,8 @@ pub struct Tables {
     pub list: Option<RowOptions>,
 
     /// Which field of the list's rows has the numbers that are added up: `--sum` or `--sum-field`. Only
-    /// `CountCellsInZones` reads it, and only if the list has rows; other commands ignore it.
+    /// `CountCellsInZones` and `CountCellsInParents` read it, and only if the list has rows; other
+    /// commands ignore it.
     pub sum: Option<CellField>,
 
     /// Which field of the list's rows divides them, with one list for each of its values: `--by` or
