@@ -20,6 +20,7 @@
 
 pub mod laws;
 mod number;
+mod powers;
 mod reading;
 mod sum;
 mod writing;

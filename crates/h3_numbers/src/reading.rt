@@ -6,6 +6,7 @@ ghost use Rattle.h3_numbers.specs.Number.{number_units};
 ghost use Rattle.h3_numbers.specs.Reading.{after_point, are_few_digits, before_point, fraction_units, is_negative, parsed_number, signed, without_sign};
 
 use crate::number::Number;
+use crate::powers::power_of_ten;
 
 /// The most digits that a number has before its point, and after it.
 const MAX_DIGITS: usize = 18;
@@ -40,7 +41,7 @@ fn read_fraction(digits: &[u8]) -> Option<u64>
     ensures none { IfNone result (are_few_digits digits.now ≡ false) }
 {
     let value = read_digits(digits)?;
-    Some(value * 10u64.pow((MAX_DIGITS - digits.len()) as u32))
+    Some(value * power_of_ten(MAX_DIGITS - digits.len()))
 }
 
 /// Whether a text begins with a `-`, and the text without a sign in front.
