@@ -12,7 +12,7 @@ use h3_tree::post_order_key;
 pub const AHEAD: usize = 16;
 
 /// The bits of a cell's number that are its key.
-const KEY_BITS: u64 = (1 << 52) - 1;
+pub(crate) const KEY_BITS: u64 = (1 << 52) - 1;
 
 /// Takes a step of each search: one whose key is above that of the cell half of its cells on goes on
 /// there.
@@ -34,7 +34,7 @@ fn step_each(cells: &[Cell], keys: &[u64; AHEAD], size: usize, places: &mut [usi
 /// Whether a place, which may be any, is the first one whose cell's key is not below another, or that
 /// is one of the next few.
 #[inline(always)]
-fn is_near(cells: &[Cell], key: u64, place: usize) -> bool
+pub(crate) fn is_near(cells: &[Cell], key: u64, place: usize) -> bool
     requires { IsZones cells.now }
 {
     let from = place.min(cells.len());

@@ -7,7 +7,7 @@ ghost use Rattle.h3_set.specs.Coverage.{IsCovered};
 ghost use Rattle.h3_regions.specs.FirstPlaces.{IsTableOf};
 ghost use Rattle.h3_regions.specs.Zones.{IsZones, zone_of};
 
-use crate::ahead::{AHEAD, keys_of, search_each};
+use crate::ahead::{AHEAD, KEY_BITS, is_near, keys_of, search_each};
 use crate::zone_index::{divide, fill, slot_of};
 use crate::zones::{Zones, search_between};
 use h3_index::Cell;
@@ -93,11 +93,10 @@ impl<'a> TabledZones<'a> {
         Zones::over(self.cells)
     }
 
-    /// Where `Zones::zone_near` has to look for a cell first: at its zone, if the table is that of the
-    /// zones; else anywhere.
+    /// Where `Zones::zone_near` has to look first for a cell with this key: at its zone, if the table is that
+    /// of the zones; else anywhere.
     #[inline(always)]
-    pub(crate) fn near(&self, cell: Cell) -> usize {
-        let key = post_order_key(cell);
+    pub(crate) fn near(&self, key: u64) -> usize {
         let count = self.table.len();
         if count == 0 {
             return searched(self.cells, key, 0, self.cells.len());
@@ -139,6 +138,20 @@ impl<'a> TabledZones<'a> {
         longest
     }
 
+    /// Where `Zones::zone_near` may look for the cell with an index first: at `place`, which may be any, if
+    /// the cell is near it, and else where its part of the table leads.
+    ///
+    /// This is a hint, as those of `look_ahead` are. An index need not be a cell's.
+    #[inline(always)]
+    pub fn look_for(&self, index: u64, place: usize) -> usize {
+        let key = index & KEY_BITS;
+        if is_near(self.cells, key, place) {
+            place
+        } else {
+            self.near(key)
+        }
+    }
+
     /// Places for `Zones::zone_near` to look for the cells with the first 16 of these indexes, which are
     /// searched for side by side, each in its part of the table.
     ///
@@ -160,7 +173,7 @@ impl<'a> TabledZones<'a> {
         ensures found { IfSome result (λ z. Contains self.now z × IsAncestor z cell) }
         ensures one { (z : Address) → Contains self.now z → IsAncestor z cell → result ≡ Some z }
     {
-        let mut place = self.near(cell);
+        let mut place = self.near(post_order_key(cell));
         self.zones().zone_near(cell, &mut place)
     }
 }
