@@ -3,9 +3,8 @@ use Rattle.std.specs.Char.{is_digit}
 use Rattle.std.specs.List.{list_all}
 use Rattle.std.proofs.Common.{◌≡◌, ℕ, ◌≤◌, ◌==◌, ◌&&◌, nat_lt, Bool, true, false, List, [], ◌∷◌, length, Some, sym, ap, ◌∙◌, refl, arith, eqb-true}
 use Rattle.std.proofs.lemmas.Bool.Decides.{nat_tests}
-use Rattle.h3_index.specs.CellNumber.{cell_in}
 use Rattle.h3_index.specs.Text.{parsed_number, parsed_index, trimmed, without_prefix}
-use Rattle.h3_lines.specs.List.{said_by, said_by_cell, said_by_index}
+use Rattle.h3_lines.specs.List.{Says, said_as, said_for}
 use Rattle.h3_lines.specs.PiecesLaws.{uncut_byte, uncut_none}
 use Rattle.h3_lines.specs.Pieces.{Uncut}
 
@@ -15,13 +14,13 @@ nothing_left [] b is n parses = absurd (cc)
 nothing_left (x ∷ rest) b is n parses = let some : (length (x ∷ rest) == 0) ≡ false = grind (arith, nat_tests) in sym is ∙ some
 
 -- a line that parses as an index is not blank
-pub said_by_parsed : (line : List ℕ) (n : ℕ) → length line ≤ 64 → parsed_index line ≡ Some n
-    → said_by line ≡ said_by_cell (cell_in n)
+pub said_by_parsed : (says : Says) (line : List ℕ) (n : ℕ) → length line ≤ 64 → parsed_index line ≡ Some n
+    → said_as says line ≡ says n
 unfolding parsed_index
-said_by_parsed line n short parses =
+said_by_parsed says line n short parses =
     let few : nat_lt 64 (length line) ≡ false = grind (arith, nat_tests) in
     let left : (length (trimmed line) == 0) ≡ false = nothing_left (trimmed line) _ refl n parses in
-    rw (few, left) (ap said_by_index parses)
+    rw (few, left) (ap (said_for says) parses)
 
 -- ---- plain lines
 

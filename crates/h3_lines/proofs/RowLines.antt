@@ -7,7 +7,7 @@ use Rattle.h3_lines.specs.PiecesLaws.{first_piece}
 use Rattle.h3_lines.specs.Answer.{Answer}
 use Rattle.h3_lines.specs.EachLine.{followed_by, line_answer, lines_answer}
 use Rattle.h3_lines.specs.Line.{lines_in-append}
-use Rattle.h3_lines.specs.List.{cells_said, lines_of, listed_cells, said_before, said_by, with_first as first_more}
+use Rattle.h3_lines.specs.List.{Says, cells_said, lines_of, listed_as, said_as, said_before, with_first as first_more}
 use Rattle.h3_lines.specs.Numbered.{RefusesAt, faulty_from, number_of_fault}
 use Rattle.h3_lines.specs.Pieces.{Piece, lines_in, pieces_of, rows_of, with_first, without_last_nothing}
 use Rattle.h3_lines.specs.Taking.{IsRefusal, cells_from, read_before}
@@ -59,15 +59,16 @@ module _ (answer : Option ℕ → Answer) where
   rows_answered bytes = pieces_answered 1 (pieces_of false bytes) ∙ ap (lines_answer answer 1) (lines_are bytes)
 
 -- the cells, or the error of the first faulty line, at its number
-last_read : (n : ℕ) (p : Piece) (t : Bool) → (length p.0 == 0) ≡ t
-    → cells_from tt n (if t then [] else p ∷ []) ≡ cells_from tt n (p ∷ [])
-last_read n p true is = rw (empty_from_test p.0 true (sym is) refl) refl
-last_read n p false is = refl
+last_read : (says : Says) (n : ℕ) (p : Piece) (t : Bool) → (length p.0 == 0) ≡ t
+    → cells_from tt (says, n) (if t then [] else p ∷ []) ≡ cells_from tt (says, n) (p ∷ [])
+last_read says n p true is = rw (empty_from_test p.0 true (sym is) refl) refl
+last_read says n p false is = refl
 
-pieces_read : (n : ℕ) (ps : List Piece) → cells_from tt n (without_last_nothing ps) ≡ cells_from tt n ps
-pieces_read n [] = refl
-pieces_read n (p ∷ []) = last_read n p (length p.0 == 0) refl
-pieces_read n (p ∷ q ∷ ps) = ap (read_before n (said_by p.0)) (pieces_read (n + 1) (q ∷ ps))
+pieces_read : (says : Says) (n : ℕ) (ps : List Piece)
+    → cells_from tt (says, n) (without_last_nothing ps) ≡ cells_from tt (says, n) ps
+pieces_read says n [] = refl
+pieces_read says n (p ∷ []) = last_read says n p (length p.0 == 0) refl
+pieces_read says n (p ∷ q ∷ ps) = ap (read_before n (said_as says p.0)) (pieces_read says (n + 1) (q ∷ ps))
 
 -- ---- the cells of rows, as those of a list
 
@@ -84,18 +85,19 @@ numbered_before n faulty (Ok None) (Err e) = refl
 numbered_before n faulty (Ok (Some cell)) (Ok cells) = refl
 numbered_before n faulty (Ok (Some cell)) (Err e) = refl
 
-pub lines_numbered : (n : ℕ) (ps : List Piece)
-    → cells_from tt n ps ≡ numbered (faulty_from n (lines_in ps)) (cells_said (lines_in ps))
-lines_numbered n [] = refl
-lines_numbered n (p ∷ ps) =
-    ap (read_before n (said_by p.0)) (lines_numbered (n + 1) ps)
-    ∙ numbered_before n (faulty_from (n + 1) (lines_in ps)) (said_by p.0) (cells_said (lines_in ps))
+pub lines_numbered : (says : Says) (n : ℕ) (ps : List Piece)
+    → cells_from tt (says, n) ps ≡ numbered (faulty_from says n (lines_in ps)) (cells_said says (lines_in ps))
+lines_numbered says n [] = refl
+lines_numbered says n (p ∷ ps) =
+    ap (read_before n (said_as says p.0)) (lines_numbered says (n + 1) ps)
+    ∙ numbered_before n (faulty_from says (n + 1) (lines_in ps)) (said_as says p.0) (cells_said says (lines_in ps))
 
-pub rows_numbered : (n : ℕ) (bytes : List ℕ)
-    → cells_from tt n (rows_of false bytes) ≡ numbered (faulty_from n (lines_of bytes)) (listed_cells bytes)
-rows_numbered n bytes =
-    pieces_read n (pieces_of false bytes) ∙ lines_numbered n (pieces_of false bytes)
-    ∙ ap (λ ls. numbered (faulty_from n ls) (cells_said ls)) (lines_are bytes)
+pub rows_numbered : (says : Says) (n : ℕ) (bytes : List ℕ)
+    → cells_from tt (says, n) (rows_of false bytes)
+    ≡ numbered (faulty_from says n (lines_of bytes)) (listed_as says bytes)
+rows_numbered says n bytes =
+    pieces_read says n (pieces_of false bytes) ∙ lines_numbered says n (pieces_of false bytes)
+    ∙ ap (λ ls. numbered (faulty_from says n ls) (cells_said says ls)) (lines_are bytes)
 
 pub numbered_cells : (n : ℕ) (list : Result (List Address) H3Error) (cells : List Address) → numbered n list ≡ Ok cells
     → list ≡ Ok cells

@@ -28,15 +28,29 @@ abbrev pub said_by_cell : Option Address → Result (Option Address) H3Error
 said_by_cell None = Err CellInvalid
 said_by_cell (Some cell) = Ok (Some cell)
 
-abbrev pub said_by_index : Option ℕ → Result (Option Address) H3Error
-said_by_index None = Err Failed
-said_by_index (Some index) = said_by_cell (cell_in index)
+-- Says: what is taken for each index of a list: a cell, nothing, or an error
+abbrev pub Says : Type 0
+Says = ℕ → Result (Option Address) H3Error
 
--- a line of more than 64 bytes is faulty, also one of blanks; any other of blanks alone is skipped
-abbrev pub said_by : List ℕ → Result (Option Address) H3Error
-said_by line =
+-- itself index: the cell that has the index, or `CellInvalid` if none has it
+abbrev pub itself : Says
+itself index = said_by_cell (cell_in index)
+
+-- said_for says index: what is taken for an index; a text that has none is faulty
+abbrev pub said_for : Says → Option ℕ → Result (Option Address) H3Error
+said_for says None = Err Failed
+said_for says (Some index) = says index
+
+-- said_as says line: what a line says, if this is taken for its index: a line of more than 64 bytes is faulty, also one
+-- of blanks; any other of blanks alone is skipped
+abbrev pub said_as : Says → List ℕ → Result (Option Address) H3Error
+said_as says line =
     if nat_lt 64 (length line) then Err Failed else if length (trimmed line)
-    == 0 then Ok None else said_by_index (parsed_index line)
+    == 0 then Ok None else said_for says (parsed_index line)
+
+-- said_by line: what a line says of which the cell itself is taken
+abbrev pub said_by : List ℕ → Result (Option Address) H3Error
+said_by line = said_as itself line
 
 -- ---- the list
 
@@ -47,14 +61,19 @@ said_before (Ok None) later = later
 said_before (Ok (Some cell)) (Ok cells) = Ok (cell ∷ cells)
 said_before (Ok (Some cell)) (Err e) = Err e
 
--- the cells of the lines; the first faulty line decides
-abbrev pub cells_said : List (List ℕ) → Result (List Address) H3Error
-cells_said [] = Ok []
-cells_said (line ∷ lines) = said_before (said_by line) (cells_said lines)
+-- cells_said says lines: what is taken for the cells of the lines; the first faulty line decides
+abbrev pub cells_said : Says → List (List ℕ) → Result (List Address) H3Error
+cells_said says [] = Ok []
+cells_said says (line ∷ lines) = said_before (said_as says line) (cells_said says lines)
+
+-- listed_as says bytes: what is taken for the cells that the lines of an input parse as, or the error of the first
+-- faulty line
+abbrev pub listed_as : Says → List ℕ → Result (List Address) H3Error
+listed_as says bytes = cells_said says (lines_of bytes)
 
 -- listed_cells bytes: the cells that the lines of an input parse as, or the error of the first faulty line
 abbrev pub listed_cells : List ℕ → Result (List Address) H3Error
-listed_cells bytes = cells_said (lines_of bytes)
+listed_cells bytes = listed_as itself bytes
 
 -- ---- why it is not read
 

@@ -2,7 +2,7 @@
 use Rattle.std.specs.Prelude.{◌≡◌, ℕ, ◌+◌, List, [], ◌∷◌, ⊤, Option, Result, Ok, Err}
 use Rattle.h3_index.specs.Cell.{Address}
 use Rattle.h3_index.specs.declared.error.H3Error.{H3Error}
-use Rattle.h3_lines.specs.List.{lines_of, said_by}
+use Rattle.h3_lines.specs.List.{Says, itself, lines_of, said_as}
 use Rattle.h3_lines.specs.declared.run_error.AnswerError.{AnswerError}
 use Rattle.h3_lines.specs.declared.run_error.AnswerError.TheVariants.{Call, At}
 use Rattle.h3_lines.specs.declared.run_error.Fault.TheVariants.{Memory, Read, Write}
@@ -14,14 +14,20 @@ abbrev pub number_of_fault : ℕ → Result (Option Address) H3Error → ℕ →
 number_of_fault number (Err e) later = number
 number_of_fault number (Ok said) later = later
 
--- faulty_from n lines: the number of the first faulty one of lines, of which the first has the number n
-abbrev pub faulty_from : ℕ → List (List ℕ) → ℕ
-faulty_from number [] = number
-faulty_from number (line ∷ lines) = number_of_fault number (said_by line) (faulty_from (number + 1) lines)
+-- faulty_from says n lines: the number of the first faulty one of lines, of which the first has the number n
+abbrev pub faulty_from : Says → ℕ → List (List ℕ) → ℕ
+faulty_from says number [] = number
+faulty_from says number (line ∷ lines) =
+    number_of_fault number (said_as says line) (faulty_from says (number + 1) lines)
 
--- faulty_line bytes: the number of the first faulty line of a list; the first line is 1, and blank lines count
+-- faulty_line_as says bytes: the number of the first faulty line of a list, if this is taken for its indexes; the first
+-- line is 1, and blank lines count
+abbrev pub faulty_line_as : Says → List ℕ → ℕ
+faulty_line_as says bytes = faulty_from says 1 (lines_of bytes)
+
+-- faulty_line bytes: the number of the first faulty line of a list of cells
 abbrev pub faulty_line : List ℕ → ℕ
-faulty_line bytes = faulty_from 1 (lines_of bytes)
+faulty_line bytes = faulty_line_as itself bytes
 
 -- RefusesAt: `RefusesList`, where the list's own error is reported with this number of a line
 --

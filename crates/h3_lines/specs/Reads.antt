@@ -2,7 +2,7 @@
 use Rattle.std.specs.Prelude.{◌≡◌, ℕ, ◌+◌, ◌≤◌, ◌*◌, ◌⊎◌, Bool, List, [], ◌∷◌, ◌++◌, length, Option, Some, Err, IsOk}
 use Rattle.h3_index.specs.declared.error.H3Error.{H3Error}
 use Rattle.h3_lines.specs.Beginning.{SomeBeginning}
-use Rattle.h3_lines.specs.List.{cells_said, lines_of, listed_cells}
+use Rattle.h3_lines.specs.List.{Says, cells_said, lines_of, listed_as}
 
 -- ---- a source
 
@@ -32,39 +32,41 @@ IsReadToEnd source = (list : List ℕ) → source.left ≡ Some list → source.
 abbrev pub IsWithinReads : ℕ → ℕ → List ℕ → Type 0
 IsWithinReads reads page bytes = length bytes + page ≤ reads * page
 
--- IsKnownFaulty bytes: a list that begins with these bytes is an error, the same whatever bytes come after them
-abbrev pub IsKnownFaulty : List ℕ → Type 0
-IsKnownFaulty bytes = (e : H3Error) × ((after : List ℕ) → listed_cells (bytes ++ after) ≡ Err e)
+-- ---- what is taken for the indexes of a list says which of its lines are faulty
 
--- IsListWithinReads reads page list: the reads can find the end of the list, or take a beginning of it that is known to
--- be faulty
-abbrev pub IsListWithinReads : ℕ → ℕ → List ℕ → Type 0
-IsListWithinReads reads page list =
-    IsWithinReads reads page list ⊎ SomeBeginning (λ part. IsKnownFaulty part × (length part ≤ reads * page)) list
+-- IsKnownFaulty says bytes: a list that begins with these bytes is an error, the same whatever bytes come after them
+abbrev pub IsKnownFaulty : Says → List ℕ → Type 0
+IsKnownFaulty says bytes = (e : H3Error) × ((after : List ℕ) → listed_as says (bytes ++ after) ≡ Err e)
 
--- HasNoFaultYet bytes: no line that ends in the bytes is faulty, and the last one has at most 64 bytes
+-- IsListWithinReads says reads page list: the reads can find the end of the list, or take a beginning of it that is
+-- known to be faulty
+abbrev pub IsListWithinReads : Says → ℕ → ℕ → List ℕ → Type 0
+IsListWithinReads says reads page list =
+    IsWithinReads reads page list ⊎ SomeBeginning (λ part. IsKnownFaulty says part × (length part ≤ reads * page)) list
+
+-- HasNoFaultYet says bytes: no line that ends in the bytes is faulty, and the last one has at most 64 bytes
 --
 -- no line of the bytes is known to be faulty: those that end in them are not, and the last one, which may go on after
 -- them, has at most 64 bytes
-pub record HasNoFaultYet (bytes : List ℕ) : Type 0 where
+pub record HasNoFaultYet (says : Says) (bytes : List ℕ) : Type 0 where
   pub ended : List (List ℕ)
   pub last : List ℕ
   pub lines : lines_of bytes ≡ ended ++ last ∷ []
-  pub good : IsOk (cells_said ended)
+  pub good : IsOk (cells_said says ended)
   pub short : length last ≤ 64
 
--- StopsAtFault most list left: these bytes of a list are left, and at most so many were taken after bytes that have no
--- fault yet
-pub record StopsAtFault (most : ℕ) (list left : List ℕ) : Type 0 where
+-- StopsAtFault says most list left: these bytes of a list are left, and at most so many were taken after bytes that
+-- have no fault yet
+pub record StopsAtFault (says : Says) (most : ℕ) (list left : List ℕ) : Type 0 where
   pub before : List ℕ
   pub last : List ℕ
   pub split : list ≡ before ++ last ++ left
   pub within : length last ≤ most
-  pub good : HasNoFaultYet before
+  pub good : HasNoFaultYet says before
 
--- StopsWithin n source: where the bytes left in the source were known, at most n were taken after bytes in which no
--- line is known to be faulty
-abbrev pub StopsWithin : ℕ → SourceUse → Type 0
-StopsWithin n source =
+-- StopsWithin says n source: where the bytes left in the source were known, at most n were taken after bytes in which
+-- no line is known to be faulty
+abbrev pub StopsWithin : Says → ℕ → SourceUse → Type 0
+StopsWithin says n source =
     (list : List ℕ) → source.left ≡ Some list
-    → (left : List ℕ) × (source.left_after ≡ Some left) × StopsAtFault n list left
+    → (left : List ℕ) × (source.left_after ≡ Some left) × StopsAtFault says n list left

@@ -3,7 +3,7 @@
 use Rattle.std.specs.Prelude.{◌≡◌, ⊤, ℕ, ◌+◌, List, [], ◌∷◌, ◌++◌, Option, None, Some, Result, Ok, Err}
 use Rattle.h3_index.specs.Cell.{Address}
 use Rattle.h3_index.specs.declared.error.H3Error.{H3Error}
-use Rattle.h3_lines.specs.List.{said_by}
+use Rattle.h3_lines.specs.List.{Says, said_as}
 use Rattle.h3_lines.specs.Pieces.{Piece}
 use Rattle.h3_lines.specs.declared.run_error.AnswerError.{AnswerError}
 use Rattle.h3_lines.specs.declared.run_error.AnswerError.TheVariants.{At}
@@ -50,8 +50,12 @@ abbrev pub read_before : ℕ → Result (Option Address) H3Error → Result (Lis
 read_before number (Err e) later = Err (At number e)
 read_before number (Ok cell) later = cells_before (cell_list cell) later
 
--- the cells of rows as lines, of which the first has this number, or the error of the first faulty one, at its number;
--- nothing is last
-abbrev pub cells_from : Unit {0} → ℕ → List Piece → Result (List Address) AnswerError
-cells_from last number [] = Ok []
-cells_from last number (p ∷ ps) = read_before number (said_by p.0) (cells_from last (number + 1) ps)
+-- LineState: what is taken for an index, and the number of the next line
+abbrev pub LineState : Type 0
+LineState = Says × ℕ
+
+-- what is taken for the cells of rows as lines, of which the first has this number, or the error of the first faulty
+-- one, at its number; nothing is last
+abbrev pub cells_from : Unit {0} → LineState → List Piece → Result (List Address) AnswerError
+cells_from last v [] = Ok []
+cells_from last v (p ∷ ps) = read_before v.1 (said_as v.0 p.0) (cells_from last (v.0, v.1 + 1) ps)

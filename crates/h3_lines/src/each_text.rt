@@ -45,6 +45,13 @@ pub trait TextFunction {
         false
     }
 
+    /// Where `text` is to look for an index that is on no line that was looked up ahead: at `place`, where the
+    /// one before it was found, or elsewhere. It may be any.
+    #[inline(always)]
+    fn look_for(&self, _index: u64, place: usize) -> usize {
+        place
+    }
+
     /// The places at which `text` looks for the indexes of the next lines, at most 16, one for each;
     /// `None` if each is looked for at the place that the one before it left. They may be any.
     #[inline(always)]

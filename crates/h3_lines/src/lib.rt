@@ -29,7 +29,7 @@ pub use run_error::{AnswerError, CellFile, ColumnError, Fault, RowError, RowFaul
 pub use splitting::{
     Job, JobContract, MAX_READS, PAGE, drive, drive_to_end, lengthen, row_page, split, take_last,
 };
-pub use taking::{CellJob, take_cells};
+pub use taking::{CellFunction, CellJob, Itself, take_cells, take_cells_as};
 pub use write::{
     CellLines, write_all, write_answer, write_cells_lines, write_held, write_lines, write_result,
     write_walk,

@@ -2,37 +2,27 @@
 
 ghost use Rattle.std.proofs.Common.{◌∙◌, ap, append-nil, append_assoc, sym};
 ghost use Rattle.std.specs.Prelude.{◌≡◌, ◌<◌, ◌*◌, ◌^◌, ◌++◌, length, IfOk, IfErr};
-ghost use Rattle.h3_index.specs.CellNumber.{cell_in};
-ghost use Rattle.h3_lines.specs.List.{said_by, said_by_cell};
+ghost use Rattle.h3_lines.specs.List.{itself, said_as};
 ghost use Rattle.h3_lines.specs.ListRead.{ListRead, ListRefused, RefusesByError, RefusesByLine};
 ghost use Rattle.h3_lines.specs.Numbered.{without_number};
 ghost use Rattle.h3_lines.specs.Reads.{source_use};
 
 use crate::run_error::{AnswerError, Fault, RunError};
 use crate::splitting::{LONGEST_LINE, MAX_READS, PAGE, row_page};
-use crate::taking::{CellJob, take_cells, take_list};
+use crate::taking::{CellFunction, CellJob, Itself, take_cells, take_list};
 use h3_index::{Cell, H3Error, is_blank_text, read_index};
 use h3_streams::Source;
 use std::alloc::Global;
 
-/// The cell with an index, or the error where no cell has it.
-#[inline(always)]
-pub(crate) fn cell_with(index: u64) -> Result<Option<Cell>, H3Error>
-    ensures { result ≡ said_by_cell (cell_in index) }
-{
-    let cell = Cell::new(index)?;
-    Ok(Some(cell))
-}
-
-/// The cell of a line, nothing where it is blank, or the error of a faulty line.
-pub(crate) fn read_line(line: &[u8]) -> Result<Option<Cell>, H3Error>
-    ensures { result ≡ said_by line.now }
+/// What is taken for the index of a line, nothing where it is blank, or the error of a faulty line.
+pub(crate) fn read_line<F: CellFunction>(function: &F, line: &[u8]) -> Result<Option<Cell>, H3Error>
+    ensures { result ≡ said_as (F.says function.now) line.now }
 {
     if line.len() > LONGEST_LINE {
         return Err(H3Error::Failed);
     }
     match read_index(line) {
-        Ok(index) => cell_with(index),
+        Ok(index) => function.cell_of(index),
         Err(_) if is_blank_text(line) => Ok(None),
         Err(error) => Err(error),
     }
@@ -77,13 +67,13 @@ pub fn read_list<R: Source>(
 ) -> Result<Vec<Cell>, RunError>
     requires some { 0 < size }
     requires few { limit * size < 2 ^ 62 }
-    ensures cells { IfOk result (λ cells. ListRead limit size
+    ensures cells { IfOk result (λ cells. ListRead itself limit size
         (source_use R.left R.has_failed input.old input.new) cells.items) }
-    ensures refused { IfErr result (ListRefused RefusesByError limit size
+    ensures refused { IfErr result (ListRefused itself RefusesByError limit size
         (source_use R.left R.has_failed input.old input.new)) }
 {
     let mut page = row_page(alloc, LONGEST_LINE, size)?;
-    match take_list(Vec::new(alloc), input, limit, size, &mut page) {
+    match take_list(Itself, Vec::new(alloc), input, limit, size, &mut page) {
         Ok(cells) => Ok(cells),
         Err(refusal) => Err(without_line(refusal)),
     }
@@ -105,9 +95,9 @@ pub fn read_list<R: Source>(
 /// - `Fault::Read` if a read fails, or the end is not found in 2^40 reads.
 /// - `Fault::Memory` if there is no memory for the page or a cell.
 pub fn read_cells<R: Source>(alloc: Global, input: &mut R) -> Result<Vec<Cell>, RunError>
-    ensures cells { IfOk result (λ cells. ListRead MAX_READS PAGE
+    ensures cells { IfOk result (λ cells. ListRead itself MAX_READS PAGE
         (source_use R.left R.has_failed input.old input.new) cells.items) }
-    ensures refused { IfErr result (ListRefused RefusesByError MAX_READS PAGE
+    ensures refused { IfErr result (ListRefused itself RefusesByError MAX_READS PAGE
         (source_use R.left R.has_failed input.old input.new)) }
 {
     match read_numbered_cells(alloc, input) {
@@ -128,9 +118,9 @@ pub fn read_cells<R: Source>(alloc: Global, input: &mut R) -> Result<Vec<Cell>, 
 /// - `Fault::Read` if a read fails, or the end is not found in 2^40 reads.
 /// - `Fault::Memory` if there is no memory for the page or a cell.
 pub fn read_numbered_cells<R: Source>(alloc: Global, input: &mut R) -> Result<Vec<Cell>, RunError>
-    ensures cells { IfOk result (λ cells. ListRead MAX_READS PAGE
+    ensures cells { IfOk result (λ cells. ListRead itself MAX_READS PAGE
         (source_use R.left R.has_failed input.old input.new) cells.items) }
-    ensures refused { IfErr result (ListRefused RefusesByLine MAX_READS PAGE
+    ensures refused { IfErr result (ListRefused itself RefusesByLine MAX_READS PAGE
         (source_use R.left R.has_failed input.old input.new)) }
 {
     take_cells(alloc, Vec::new(alloc), input)
