@@ -252,7 +252,7 @@ beginning_solid whole (x ∷ xs) blanks h split =
     first_solid x (xs ++ blanks) (is_blank x) refl (ap without_leading_blanks (sym split) ∙ h ∙ split) in
     rw solid refl
 
-trim_again : (bytes : List ℕ) → trimmed (trimmed bytes) ≡ trimmed bytes
+pub trim_again : (bytes : List ℕ) → trimmed (trimmed bytes) ≡ trimmed bytes
 trim_again bytes =
     let front = without_leading_blanks bytes in
     let (blanks, all, split) = trail_split front in
@@ -594,7 +594,7 @@ module _ (table : Table) (quote : (34 == table.form.separator) ≡ false) where
       header_fields n (read_of n (row_body line)) r (table_columns table (read_of n (row_body line))) entries is
   filled_fields n line (Some columns) r entries is =
       let row = read_of n (row_body line) in
-      cell_fields table.content n row columns.name r (cell_read (row_cell table.form n columns.cell (row_body line)))
+      cell_fields table.content n row columns.name r (cell_read table.form.says (row_cell table.form n columns.cell (row_body line)))
       (name_at table.form columns.name row) refl entries is
 
   found_fields : (n : ℕ) (columns : Option TableColumns) (p : Piece) → IsPiece 10 quotes 0 false false p

@@ -3,24 +3,19 @@ use Rattle.std.proofs.Common.{◌≡◌, ℕ, ◌+◌, ◌<◌, ◌≤◌, ◌==
 use Rattle.std.proofs.lemmas.Bool.Decides.{nat_tests}
 use mathlib.Core.Bool.{beq}
 use Rattle.h3_index.specs.Cell.{Address}
-use Rattle.h3_index.specs.CellNumber.{cell_in}
-use Rattle.h3_lines.specs.List.{said_by_cell}
 use Rattle.h3_lines.specs.Pieces.{CutsAt}
 use Rattle.h3_lines.specs.Taking.{HaveCells}
-use Rattle.h3_requests.specs.declared.rows.RowOptions.{RowOptions}
 use Rattle.h3_rows.specs.Cells.{called, cell_read}
 use Rattle.h3_rows.specs.CellsIn.{cells_in}
-use Rattle.h3_rows.specs.Named.{named_row}
-use Rattle.h3_rows.specs.NamedIn.{IsPlainEntry, named_in, table_in}
+use Rattle.h3_rows.specs.Named.{Table, named_row}
+use Rattle.h3_rows.specs.NamedIn.{IsPlainEntry, named_in}
 use Rattle.h3_rows.specs.Plain.{IsPlainCell, IsPlainField, IsPlainRow}
 use Rattle.h3_rows.specs.Row.{is_empty_row, next_number, read_of, row_body}
-use Rattle.h3_rows.specs.RowForm.{form_of}
 use Rattle.h3_rows.specs.RowsAnswer.{Form, malformed, row_cell, text_cell}
 use Rattle.h3_rows.specs.declared.row_cell.RowCell.TheVariants.{Index}
 use Rattle.h3_rows.specs.declared.state.Columns.{Columns}
 use Rattle.h3_rows.specs.declared.state.RowState.{RowState}
 use Rattle.h3_rows.specs.declared.table.TableColumns.{TableColumns}
-use Rattle.h3_rows.specs.declared.table.TableForm.{TableForm}
 use Rattle.h3_rows.specs.declared.table.TableState.{TableState}
 use Rattle.h3_rows.proofs.Returns.{body_of_row, row_length}
 use Rattle.h3_rows.proofs.Texts.{text_cell_parsed}
@@ -66,7 +61,7 @@ module _ (form : Form) (number : ℕ) (k : Columns) (later : number ≡ 1 → �
           p.field_is,
         ) (ap text_cell plain.text_is ∙ sym (text_cell_parsed plain.text index plain.parses))
 
-    pub plain_cell : (index : ℕ) (cell : Address) → IsPlainField form.quotes field index → Some cell ≡ cell_in index
+    pub plain_cell : (index : ℕ) (cell : Address) → IsPlainField form.quotes field index → form.says index ≡ Ok (Some cell)
         → 0 < length row → length row ≤ 1048575 → IsPlainCell form number k bytes row n cell
     plain_cell index cell plain is some few = record {
       after = p.after;
@@ -78,7 +73,7 @@ module _ (form : Form) (number : ℕ) (k : Columns) (later : number ≡ 1 → �
       body_is = plain_body;
       read_is = plain_read;
       filled = plain_filled some;
-      cell_is = ap cell_read (plain_said index plain) ∙ ap (λ c. called (said_by_cell c)) (sym is);
+      cell_is = ap (cell_read form.says) (plain_said index plain) ∙ ap called is;
     }
 
 pub same_quotes : (p q : Bool) → not (beq p q) ≡ false → p ≡ q
@@ -98,25 +93,24 @@ module _ (form : Form) (number : ℕ) (k : Columns) (bytes row : List ℕ) (n : 
   pub next_row : next_number number (row ++ replicate n 13) ≡ number + 1
   next_row = omega (arith, p.feedless)
 
-pub plain_have : (options : RowOptions) (s a : RowState) (k : Columns) (bytes row : List ℕ) (n : ℕ) (cell : Address)
-    → IsPlainCell (form_of options []) s.number k bytes row n cell → s.columns ≡ Some k → a.number ≡ s.number + 1
+pub plain_have : (form : Form) (s a : RowState) (k : Columns) (bytes row : List ℕ) (n : ℕ) (cell : Address)
+    → IsPlainCell form s.number k bytes row n cell → s.columns ≡ Some k → a.number ≡ s.number + 1
     → a.columns ≡ s.columns
-    → HaveCells cells_in (options, s) ((row ++ replicate n 13, false) ∷ []) (cell ∷ []) (options, a)
-plain_have options s a k bytes row n cell p known count same last more =
+    → HaveCells cells_in (form, s) ((row ++ replicate n 13, false) ∷ []) (cell ∷ []) (form, a)
+plain_have form s a k bytes row n cell p known count same last more =
     let number : next_number s.number (row ++ replicate n 13) ≡ a.number =
-    next_row (form_of options []) s.number k bytes row n cell p ∙ sym count in
+    next_row form s.number k bytes row n cell p ∙ sym count in
     rw (known, p.sound, p.body_is, p.filled, p.cell_is, number, same ∙ known) refl
 
 -- the same with its second field
-pub entry_have : (form : TableForm) (s a : TableState) (k : TableColumns) (bytes field : List ℕ) (size : ℕ)
+pub entry_have : (table : Table) (s a : TableState) (k : TableColumns) (bytes field : List ℕ) (size : ℕ)
     (cell : Address)
-    → (p : IsPlainEntry (table_in form) s.number k bytes cell field size) → s.columns ≡ Some k
+    → (p : IsPlainEntry table s.number k bytes cell field size) → s.columns ≡ Some k
     → a.number ≡ s.number + 1 → a.columns ≡ s.columns
-    → HaveCells named_in (form, s) ((p.row ++ replicate p.returns 13, false) ∷ [])
-    (record { cell = Some cell; field = field; row = s.number } ∷ []) (form, a)
-entry_have form s a k bytes field size cell p known count same last more =
+    → HaveCells named_in (table, s) ((p.row ++ replicate p.returns 13, false) ∷ [])
+    (record { cell = Some cell; field = field; row = s.number } ∷ []) (table, a)
+entry_have table s a k bytes field size cell p known count same last more =
     let plain = p.plain in
-    let table = table_in form in
     let number : next_number s.number (p.row ++ replicate p.returns 13) ≡ a.number =
     next_row table.form s.number k.cell bytes p.row p.returns cell plain ∙ sym count in
     let entry : named_row table s.number k p.row ≡ Ok (Some (Some cell, field)) =

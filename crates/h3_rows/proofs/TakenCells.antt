@@ -4,7 +4,6 @@ use Rattle.std.specs.Prelude.{⊤}
 use Rattle.std.specs.Io.KnownBytes.{Consumes}
 use Rattle.std.proofs.KnownBytes.{Consumes-nil}
 use Rattle.h3_index.specs.Cell.{Address}
-use Rattle.h3_requests.specs.declared.rows.RowOptions.{RowOptions}
 use Rattle.h3_streams.specs.Stream.{HasLeft}
 use Rattle.h3_lines.specs.declared.run_error.AnswerError.{AnswerError}
 use Rattle.h3_lines.specs.declared.run_error.Fault.TheVariants.{Memory, Read, Write}
@@ -16,7 +15,6 @@ use Rattle.h3_lines.specs.Taking.{HaveCells, RefusesCells, cells_before}
 use Rattle.h3_lines.specs.TakingLaws.{have_all, refuses_after}
 use Rattle.h3_rows.specs.Cells.{AllRowsRead, RefusesRows, RefusesRowsAtEnd, RefusesRowsInPage, RowsReadTo, begun_cells, cells_end, cells_of, cells_then}
 use Rattle.h3_rows.specs.CellsIn.{cells_in}
-use Rattle.h3_rows.specs.RowForm.{form_of}
 use Rattle.h3_rows.specs.RowsAnswer.{Form, columns_first}
 use Rattle.h3_rows.specs.declared.state.Columns.{Columns}
 use Rattle.h3_rows.specs.declared.state.RowState.{RowState}
@@ -26,8 +24,8 @@ some_held : (told : Option (List ℕ)) → (bytes : List ℕ) × HasLeft told by
 some_held None = ([], tt)
 some_held (Some xs) = (xs, refl)
 
--- over what takes the cells: the options and the state, and which cells were taken from one moment to a later one
-module _ {V : Type 0} (state : V → RowOptions × RowState) (taken : V → List Address → V → Type 0) where
+-- over what takes the cells: the form and the state, and which cells were taken from one moment to a later one
+module _ {V : Type 0} (state : V → Form × RowState) (taken : V → List Address → V → Type 0) where
   abbrev Takes : V → List Piece → V → Type 0
   Takes v rows w = (cells : List Address) × HaveCells cells_in (state v) rows cells (state w) × taken v cells w
 
@@ -38,7 +36,7 @@ module _ {V : Type 0} (state : V → RowOptions × RowState) (taken : V → List
   Settled v = ⊤
 
   abbrev form : V → Form
-  form v = form_of (state v).0 []
+  form v = (state v).0
 
   -- from the beginning of a list
   module _ (v w : V) (old new : Option (List ℕ)) (first : (state v).1.number ≡ 1) (start : (state v).1.columns ≡ columns_first (form v).has_header (form v).choice) where

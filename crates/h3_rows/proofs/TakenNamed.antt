@@ -13,9 +13,8 @@ use Rattle.h3_lines.specs.Splitting.{RefusesAfter, StopsReading, StopsTaking, Ta
 use Rattle.h3_lines.specs.Taking.{HaveCells, RefusesCells, cells_before}
 use Rattle.h3_lines.specs.TakingLaws.{have_all, refuses_after}
 use Rattle.h3_rows.specs.Named.{AllNamedRead, Entry, NamedReadTo, RefusesNamed, RefusesNamedAtEnd, RefusesNamedInPage, Table, begun_named, named_cells, named_end, named_then, table_first}
-use Rattle.h3_rows.specs.NamedIn.{named_in, table_in}
+use Rattle.h3_rows.specs.NamedIn.{named_in}
 use Rattle.h3_rows.specs.declared.table.TableColumns.{TableColumns}
-use Rattle.h3_rows.specs.declared.table.TableForm.{TableForm}
 use Rattle.h3_rows.specs.declared.table.TableState.{TableState}
 
 -- some bytes are held
@@ -23,8 +22,8 @@ some_held : (told : Option (List ℕ)) → (bytes : List ℕ) × HasLeft told by
 some_held None = ([], tt)
 some_held (Some xs) = (xs, refl)
 
--- over what takes the entries: the options and the state, and which were taken from one moment to a later one
-module _ {V : Type 0} (state : V → TableForm × TableState) (taken : V → List Entry → V → Type 0) where
+-- over what takes the entries: the table and the state, and which were taken from one moment to a later one
+module _ {V : Type 0} (state : V → Table × TableState) (taken : V → List Entry → V → Type 0) where
   abbrev Takes : V → List Piece → V → Type 0
   Takes v rows w = (entries : List Entry) × HaveCells named_in (state v) rows entries (state w) × taken v entries w
 
@@ -35,7 +34,7 @@ module _ {V : Type 0} (state : V → TableForm × TableState) (taken : V → Lis
   Settled v = ⊤
 
   abbrev table : V → Table
-  table v = table_in (state v).0
+  table v = (state v).0
 
   -- from the beginning of a list
   module _ (v w : V) (old new : Option (List ℕ)) (first : (state v).1.number ≡ 1) (start : (state v).1.columns ≡ table_first (table v)) where

@@ -4,7 +4,7 @@ use Rattle.std.specs.Io.KnownBytes.{Consumes}
 use Rattle.h3_index.specs.Cell.{Address}
 use Rattle.h3_streams.specs.Stream.{HasLeft}
 use Rattle.h3_index.specs.declared.error.H3Error.{H3Error}
-use Rattle.h3_lines.specs.List.{said_by_index}
+use Rattle.h3_lines.specs.List.{Says}
 use Rattle.h3_lines.specs.Reads.{IsWithinReads}
 use Rattle.h3_lines.specs.declared.run_error.AnswerError.{AnswerError}
 use Rattle.h3_lines.specs.declared.run_error.AnswerError.TheVariants as ending_by
@@ -31,12 +31,12 @@ abbrev pub called : {A : Type 0} → Result A H3Error → Result A RowError
 called (Ok value) = Ok value
 called (Err e) = Err (row_error.Call e)
 
--- cell_read read: the cell of a row by what is read of its field: none if it is missing, and an error if the row is
--- faulty, or its index is not a valid cell
-abbrev pub cell_read : Result RowCell RowFault → Result (Option Address) RowError
-cell_read (Err fault) = Err (row_error.Bad fault)
-cell_read (Ok Missing) = Ok None
-cell_read (Ok (Index index)) = called (said_by_index (Some index))
+-- cell_read says read: the cell of a row by what is read of its field: none if it is missing, else what is taken for its
+-- index; and an error if the row is faulty, or this is an error
+abbrev pub cell_read : Says → Result RowCell RowFault → Result (Option Address) RowError
+cell_read says (Err fault) = Err (row_error.Bad fault)
+cell_read says (Ok Missing) = Ok None
+cell_read says (Ok (Index index)) = called (says index)
 
 -- at_row n cell: the cell, or its error at the row with this number
 abbrev pub at_row : ℕ → Result (Option Address) RowError → Result (List Address) AnswerError
@@ -58,7 +58,7 @@ header_found (Err e) = record { cells = Err (ending_by.Column e); columns = None
 abbrev pub filled_found : Form → ℕ → List ℕ → Option Columns → Found
 filled_found form n line None = header_found (columns_in form (read_of n (row_body line)))
 filled_found form n line (Some columns) =
-    record { cells = at_row n (cell_read (row_cell form n columns (row_body line))); columns = Some columns }
+    record { cells = at_row n (cell_read form.says (row_cell form n columns (row_body line))); columns = Some columns }
 
 -- found_unless fault form n columns line: what a row has that is malformed for this reason, or is not
 abbrev pub found_unless : Option RowFault → Form → ℕ → Option Columns → List ℕ → Found

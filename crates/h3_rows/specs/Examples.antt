@@ -3,6 +3,7 @@ use Rattle.std.specs.Prelude.{map, ◌≡◌, ℕ, Bool, true, false, List, [], 
 use Rattle.h3_index.specs.Text.{parsed_index}
 use Rattle.h3_index.specs.declared.error.H3Error.TheVariants.{Failed}
 use Rattle.h3_lines.specs.Answer.{Answer, refused, written}
+use Rattle.h3_lines.specs.List.{itself}
 use Rattle.h3_lines.specs.declared.run_error.AnswerError.TheVariants.{AtRow, AtRowAndMore, Column}
 use Rattle.h3_lines.specs.declared.run_error.ColumnError.TheVariants.{InUse, NotFound, NotUnique}
 use Rattle.h3_lines.specs.declared.run_error.RowError.TheVariants.{Bad}
@@ -30,6 +31,7 @@ tabs before =
       separator = 9;
       quotes = false;
       choice = After before;
+      says = itself;
       has_header = false;
       names = codes "new" ∷ [];
       empty = [];
@@ -45,6 +47,7 @@ commas before =
       separator = 44;
       quotes = true;
       choice = After before;
+      says = itself;
       has_header = false;
       names = codes "new" ∷ [];
       empty = [];
@@ -61,6 +64,7 @@ column cell =
       separator = 44;
       quotes = true;
       choice = Named cell;
+      says = itself;
       has_header = true;
       names = codes "cellToParent" ∷ [];
       empty = [];
@@ -77,6 +81,7 @@ headed =
       separator = 9;
       quotes = false;
       choice = After 0;
+      says = itself;
       has_header = true;
       names = codes "new" ∷ [];
       empty = [];
@@ -93,6 +98,7 @@ going_on =
       separator = 9;
       quotes = false;
       choice = After 0;
+      says = itself;
       has_header = false;
       names = codes "new" ∷ [];
       empty = [];
@@ -108,6 +114,7 @@ quoted_going_on =
       separator = 44;
       quotes = true;
       choice = After 0;
+      says = itself;
       has_header = false;
       names = codes "new" ∷ [];
       empty = [];
@@ -191,6 +198,7 @@ validity : list_answer (record {
   separator = 44;
   quotes = false;
   choice = After 0;
+  says = itself;
   has_header = false;
   names = [] ∷ [];
   empty = [];
@@ -311,6 +319,7 @@ pairs names headed goes_on =
       separator = 9;
       quotes = false;
       choice = After 0;
+      says = itself;
       has_header = headed;
       names = names;
       empty = empty_answer true 9;
@@ -386,6 +395,7 @@ named_alike has_header =
       separator = 44;
       quotes = true;
       choice = After 0;
+      says = itself;
       has_header = has_header;
       names = (34 ∷ codes "error" ++ 34 ∷ []) ∷ codes "error" ∷ [];
       empty = [];
@@ -405,6 +415,7 @@ error_column : list_answer (record {
   separator = 9;
   quotes = false;
   choice = After 0;
+  says = itself;
   has_header = false;
   names = [];
   empty = [];
@@ -433,6 +444,7 @@ texts quoted =
       separator = 44;
       quotes = true;
       choice = After 0;
+      says = itself;
       has_header = false;
       names = [];
       empty = [];
@@ -460,6 +472,7 @@ quoted_name =
       separator = 44;
       quotes = true;
       choice = After 0;
+      says = itself;
       has_header = true;
       names = (34 ∷ codes "a,b" ++ 34 ∷ []) ∷ [];
       empty = [];

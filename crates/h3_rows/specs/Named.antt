@@ -4,6 +4,7 @@ use Rattle.std.specs.Io.KnownBytes.{Consumes}
 use Rattle.h3_index.specs.Cell.{Address}
 use Rattle.h3_index.specs.Text.{trimmed}
 use Rattle.h3_streams.specs.Stream.{HasLeft}
+use Rattle.h3_lines.specs.List.{Says, itself}
 use Rattle.h3_lines.specs.Reads.{IsWithinReads}
 use Rattle.h3_lines.specs.declared.run_error.AnswerError.{AnswerError}
 use Rattle.h3_lines.specs.declared.run_error.AnswerError.TheVariants as ending_by
@@ -18,10 +19,12 @@ use Rattle.h3_lines.specs.declared.run_error.RunError.{RunError}
 use Rattle.h3_lines.specs.declared.run_error.RunError.TheVariants.{Error, Fault}
 use Rattle.h3_lines.specs.Pieces.{Piece, cut, pieces_of, rows_of}
 use Rattle.h3_lines.specs.Taking.{cells_before}
+use Rattle.h3_numbers.specs.Number.{number_units}
 use Rattle.h3_numbers.specs.Reading.{parsed_number}
+use Rattle.h3_numbers.specs.declared.number.Number.{Number as Decimal}
 use Rattle.h3_rows.specs.Cells.{cell_read}
 use Rattle.h3_rows.specs.Row.{field_text, is_empty_row, next_number, piece_at, read_of, row_body}
-use Rattle.h3_rows.specs.RowForm.{form_of}
+use Rattle.h3_rows.specs.RowForm.{form_as}
 use Rattle.h3_rows.specs.RowsAnswer.{After, Choice, Form, Named, choice_of, chosen_in, columns_first, columns_in, malformed, row_cell}
 use Rattle.h3_rows.specs.declared.state.Columns.{Columns}
 use Rattle.h3_rows.specs.declared.table.FieldContent.{FieldContent}
@@ -45,9 +48,14 @@ pub record Table : Type 0 where
   pub name : Choice
   pub content : FieldContent
 
+-- table_as says rows field content: the table of the options of rows, of which this is taken for the indexes of cells,
+-- with this second field and what that has
+abbrev pub table_as : Says → RowOptions → CellField → FieldContent → Table
+table_as says rows field content = record { form = form_as says rows; name = choice_of field; content = content }
+
 -- table_of rows field content: what is known of the options of rows, with a second field and what that has
 abbrev pub table_of : RowOptions → CellField → FieldContent → Table
-table_of rows field content = record { form = form_of rows []; name = choice_of field; content = content }
+table_of rows field content = table_as itself rows field content
 
 -- names_table options: the same of the options of a table with names
 abbrev pub names_table : TableOptions → Table
@@ -66,6 +74,10 @@ number_of_text text = if length (trimmed text) == 0 then Some (pos 0) else parse
 -- number_in quotes field: the number that a field has, in units of 10^-18: that of its text
 abbrev pub number_in : Bool → List ℕ → Option ℤ
 number_in quotes field = number_of_text (field_text quotes field)
+
+-- IsNumberOf field number: the field has the number, whether quotes count or not
+abbrev pub IsNumberOf : List ℕ → Decimal → Type 0
+IsNumberOf field number = (quotes : Bool) → number_in quotes field ≡ Some (number_units number)
 
 -- CellAndField: a cell and the second field of a row; of a header no cell
 abbrev pub CellAndField : Type 0
@@ -120,7 +132,7 @@ entries_at n (Err e) = Err (ending_by.AtRow n e)
 -- named_row table n columns row: what is read of the row with this number
 abbrev pub named_row : Table → ℕ → TableColumns → List ℕ → Result (Option CellAndField) RowError
 named_row table n columns row =
-    with_field table.content table.form.quotes (cell_read (row_cell table.form n columns.cell row))
+    with_field table.content table.form.quotes (cell_read table.form.says (row_cell table.form n columns.cell row))
     (name_at table.form columns.name (read_of n row))
 
 -- ---- the columns

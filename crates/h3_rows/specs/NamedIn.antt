@@ -1,22 +1,23 @@
 -- The entries of rows by what is read so far. Private contracts and proofs alone cite this file.
 use Rattle.std.specs.Prelude.{◌≡◌, ℕ, ◌+◌, List, length, Ok, Option, Result, Some}
 use Rattle.h3_index.specs.Cell.{Address}
+use Rattle.h3_lines.specs.List.{Says}
 use Rattle.h3_lines.specs.Pieces.{Piece}
 use Rattle.h3_lines.specs.declared.run_error.AnswerError.{AnswerError}
-use Rattle.h3_rows.specs.Named.{Entry, Table, name_at, named_then, table_of, with_field}
+use Rattle.h3_rows.specs.Named.{Entry, Table, name_at, named_then, table_as, with_field}
 use Rattle.h3_rows.specs.Plain.{IsPlainCell}
 use Rattle.h3_rows.specs.declared.table.TableForm.{TableForm}
 use Rattle.h3_rows.specs.declared.table.TableColumns.{TableColumns}
 use Rattle.h3_rows.specs.declared.table.TableState.{TableState}
 
--- how a table is read, as code has it
-abbrev pub table_in : TableForm → Table
-table_in form = table_of form.rows.now form.field.now form.content
+-- how a table is read, as code has it, where this is taken for the indexes of cells
+abbrev pub table_in : Says → TableForm → Table
+table_in says form = table_as says form.rows.now form.field.now form.content
 
--- the entries of rows of a table of this form, in this state, and then what is last
-abbrev pub named_in : (Option TableColumns → Result (List Entry) AnswerError) → TableForm × TableState → List Piece
+-- the entries of rows of a table, in this state, and then what is last
+abbrev pub named_in : (Option TableColumns → Result (List Entry) AnswerError) → Table × TableState → List Piece
     → Result (List Entry) AnswerError
-named_in last v rows = named_then last (table_in v.0) v.1.number v.1.columns rows
+named_in last v rows = named_then last v.0 v.1.number v.1.columns rows
 
 -- the bytes begin with a plain row of so many bytes, which as the row with this number has this cell, and this second
 -- field with what it should have

@@ -99,4 +99,4 @@ pub record IsPlainCell (form : Form) (number : ℕ) (columns : Columns) (bytes r
   pub body_is : row_body (row ++ replicate returns 13) ≡ row
   pub read_is : read_of number row ≡ row
   pub filled : is_empty_row number row ≡ false
-  pub cell_is : cell_read (row_cell form number columns row) ≡ Ok (Some cell)
+  pub cell_is : cell_read form.says (row_cell form number columns row) ≡ Ok (Some cell)

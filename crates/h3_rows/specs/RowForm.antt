@@ -1,5 +1,6 @@
 -- What is known of the options by which rows are read.
 use Rattle.std.specs.Prelude.{true, false, Bool, List, [], ◌++◌, ℕ, string_bytes, option_map}
+use Rattle.h3_lines.specs.List.{Says, itself}
 use Rattle.h3_requests.specs.declared.rows.RowOptions.{RowOptions}
 use Rattle.h3_rows.specs.RowsAnswer.{Form, answer_names, choice_of, empty_answer, error_names}
 
@@ -10,6 +11,7 @@ form_with quoted options name is_pair = record {
   separator = options.separator;
   quotes = options.quotes;
   choice = choice_of options.field;
+  says = itself;
   has_header = options.has_header;
   names =
       answer_names is_pair (option_map string_bytes options.name) name
@@ -38,3 +40,19 @@ pair_form_of options = columns_form options [] true
 -- in it
 abbrev pub text_form_of : Bool → RowOptions → List ℕ → Form
 text_form_of quoted options name = form_with quoted options name false
+
+-- form_as says options: the form of the rows of a list, where this is taken for the index of a cell
+abbrev pub form_as : Says → RowOptions → Form
+form_as says options = record {
+  separator = options.separator;
+  quotes = options.quotes;
+  choice = choice_of options.field;
+  says = says;
+  has_header = options.has_header;
+  names = (form_of options []).names;
+  empty = (form_of options []).empty;
+  quoted_answers = false;
+  keeps_going = options.keeps_going;
+  shows_errors = options.shows_errors;
+  is_ragged = options.is_ragged;
+}

@@ -7,6 +7,7 @@ use Rattle.h3_requests.specs.declared.rows.CellField.{CellField}
 use Rattle.h3_requests.specs.declared.rows.CellField.TheVariants.{Number, Column}
 use Rattle.h3_lines.specs.Answer.{Answer, written}
 use Rattle.h3_lines.specs.EachLine.{then_answer}
+use Rattle.h3_lines.specs.List.{Says}
 use Rattle.h3_lines.specs.RunError.{row_error_name}
 use Rattle.h3_lines.specs.declared.run_error.AnswerError.{AnswerError}
 use Rattle.h3_lines.specs.declared.run_error.AnswerError.TheVariants as ending_by
@@ -31,14 +32,15 @@ pub data Choice : Type 0 where
   After : ℕ → Choice
   Named : List ℕ → Choice
 
--- Form: the byte that separates fields, whether quotes count, which field has the cell, whether there is a header, the
--- names of the new columns, what a row gets that has no answer, whether quotes count in an answer too, whether the run
--- goes on after an error, whether one more column has the names of errors, and whether rows may have another number of
--- fields than the header
+-- Form: the byte that separates fields, whether quotes count, which field has the cell, what is taken for its index if
+-- the cells of the rows are a list, whether there is a header, the names of the new columns, what a row gets that has no
+-- answer, whether quotes count in an answer too, whether the run goes on after an error, whether one more column has the
+-- names of errors, and whether rows may have another number of fields than the header
 pub record Form : Type 0 where
   pub separator : ℕ
   pub quotes : Bool
   pub choice : Choice
+  pub says : Says
   pub has_header : Bool
   pub names : List (List ℕ)
   pub empty : List ℕ

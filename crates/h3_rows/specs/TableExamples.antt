@@ -4,6 +4,7 @@ use Rattle.h3_index.specs.Cell.{number_of}
 use Rattle.h3_index.specs.CellNumber.{address_in, cell_in}
 use Rattle.h3_index.specs.Text.{parsed_index}
 use Rattle.h3_index.specs.declared.error.H3Error.TheVariants.{CellInvalid}
+use Rattle.h3_lines.specs.List.{itself}
 use Rattle.h3_lines.specs.Pieces.{rows_of}
 use Rattle.h3_lines.specs.declared.run_error.AnswerError.{AnswerError}
 use Rattle.h3_lines.specs.declared.run_error.AnswerError.TheVariants.{AtRow, Column}
@@ -22,6 +23,7 @@ commas choice has_header is_ragged =
       separator = 44;
       quotes = true;
       choice = choice;
+      says = itself;
       has_header = has_header;
       names = [];
       empty = [];
@@ -56,6 +58,7 @@ tabs =
             separator = 9;
             quotes = false;
             choice = After 0;
+            says = itself;
             has_header = false;
             names = [];
             empty = [];

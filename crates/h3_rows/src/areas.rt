@@ -14,6 +14,7 @@ use crate::names::Names;
 use crate::table::FieldContent;
 use h3_index::Cell;
 use h3_lines::{Fault, RunError};
+use h3_numbers::Number;
 use h3_requests::{CellField, RowOptions};
 use h3_streams::Source;
 use std::alloc::{AllocError, Global};
@@ -78,7 +79,13 @@ impl NamedJob for AreaTable {
         v.cells.items w.cells.items v.rows.items w.rows.items (option_map (λ t. t.items) v.title)
         (option_map (λ t. t.items) w.title) entries };
 
-    fn take(&mut self, cell: Option<Cell>, name: &[u8], row: u64) -> Result<(), RunError> {
+    fn take(
+        &mut self,
+        cell: Option<Cell>,
+        name: &[u8],
+        _known: Option<Number>,
+        row: u64,
+    ) -> Result<(), RunError> {
         let Some(cell) = cell else {
             return match Vec::from_slice(self.alloc, name) {
                 Ok(title) => {

@@ -8,7 +8,7 @@ ghost use Rattle.h3_rows.specs.Row.{next_number};
 ghost use Rattle.h3_rows.specs.Cells.{AllRowsRead, RefusesRows, cell_read, cells_end, row_found};
 ghost use Rattle.h3_rows.specs.CellsIn.{cells_in};
 ghost use Rattle.h3_rows.specs.Line.{line_of};
-ghost use Rattle.h3_rows.specs.RowForm.{form_of};
+ghost use Rattle.h3_rows.specs.RowForm.{form_as, form_of};
 ghost use Rattle.h3_rows.specs.RowsAnswer.{choice_of, row_cell};
 ghost use Rattle.h3_rows.specs.declared.reading.TheConstants.{LONGEST};
 
@@ -22,34 +22,36 @@ use crate::row_cell::RowCell;
 use crate::state::{Columns, RowState, first_state};
 use h3_index::Cell;
 use h3_lines::{
-    AnswerError, CellJob, ColumnError, Job, JobContract, MAX_READS, PAGE, RowError, RowFault,
-    RunError, drive, row_page,
+    AnswerError, CellFunction, CellJob, ColumnError, Itself, Job, JobContract, MAX_READS, PAGE,
+    RowError, RowFault, RunError, drive, row_page,
 };
 use h3_requests::{CellField, RowOptions};
 use h3_streams::{CountedReader, Source};
 use std::alloc::Global;
 
-/// The cell of a row, `None` if it is missing.
-pub(crate) fn read_cell(
+/// What is taken for the cell of a row, `None` if it is missing.
+pub(crate) fn read_cell<F: CellFunction>(
+    function: &F,
     options: &RowOptions,
     number: u64,
     columns: Columns,
     row: &[u8],
 ) -> Result<Option<Cell>, RowError>
-    ensures { result ≡ cell_read (row_cell (form_of options.now []) number columns row.now) }
+    ensures { result ≡ cell_read (F.says function.now) (row_cell (form_of options.now []) number columns row.now) }
 {
     match read_row(options, b"", number, columns, row) {
         Ok(RowCell::Missing) => Ok(None),
-        Ok(RowCell::Index(index)) => match Cell::new(index) {
-            Ok(cell) => Ok(Some(cell)),
+        Ok(RowCell::Index(index)) => match function.cell_of(index) {
+            Ok(cell) => Ok(cell),
             Err(error) => Err(RowError::Call(error)),
         },
         Err(fault) => Err(RowError::Bad(fault)),
     }
 }
 
-/// The cell of a row, if it has one, and the state after it; or the error that ends the list.
-fn find_cell(
+/// What is taken for the cell of a row, if it has one, and the state after it; or the error that ends the list.
+fn find_cell<F: CellFunction>(
+    function: &F,
     options: &RowOptions,
     state: RowState,
     row: Row<'_>,
@@ -60,10 +62,10 @@ fn find_cell(
     ensures more { IfOk result (λ r. state.number + 1 ≤ r.1.number) }
     ensures number { IfOk result (λ r. r.1.number ≡ next_number state.number (line_of row.entry)) }
     ensures ok { IfOk result (λ r.
-        row_found (form_of options.now []) state.number state.columns (line_of row.entry, inside)
+        row_found (form_as (F.says function.now) options.now) state.number state.columns (line_of row.entry, inside)
         ≡ record { cells = Ok (cell_list r.0); columns = r.1.columns }) }
     ensures err { IfErr result (λ e.
-        (row_found (form_of options.now []) state.number state.columns (line_of row.entry, inside)).cells
+        (row_found (form_as (F.says function.now) options.now) state.number state.columns (line_of row.entry, inside)).cells
         ≡ Err e) }
 {
     if let Some(fault) = malformed(options, b"", state.number, row, inside) {
@@ -78,7 +80,7 @@ fn find_cell(
             Ok(columns) => Ok((None, state.headed(row, columns))),
             Err(error) => Err(AnswerError::Column(error)),
         },
-        Some(columns) => match read_cell(options, state.number, columns, row.body) {
+        Some(columns) => match read_cell(function, options, state.number, columns, row.body) {
             Ok(cell) => Ok((cell, state.passed(row))),
             Err(error) => Err(AnswerError::AtRow(state.number, error)),
         },
@@ -87,14 +89,15 @@ fn find_cell(
 
 /// A job over rows that gives their cells to a job over cells. It knows the state before the next row.
 #[derive(Drop)]
-struct RowCells<'f, V: CellJob> {
+struct RowCells<'f, F: CellFunction, V: CellJob> {
+    function: F,
     job: V,
     options: &'f RowOptions,
     state: RowState,
     ghost few: { V.count job ≤ state.number },
 }
 
-impl<'f, V: CellJob> JobContract for RowCells<'f, V> {
+impl<'f, F: CellFunction, V: CellJob> JobContract for RowCells<'f, F, V> {
     ghost longest = { LONGEST };
 
     ghost count = { λ v. v.state.number };
@@ -102,10 +105,12 @@ impl<'f, V: CellJob> JobContract for RowCells<'f, V> {
     ghost settled = { λ v. ⊤ };
 
     ghost taken = { λ v rows w. (cells : List Address)
-        × HaveCells cells_in (v.options.now, v.state) rows cells (w.options.now, w.state)
+        × HaveCells cells_in (form_as (F.says v.function) v.options.now, v.state) rows cells
+        (form_as (F.says w.function) w.options.now, w.state)
         × V.taken v.job cells w.job };
 
-    ghost refused = { λ v rows w e. RefusesCells cells_in (v.options.now, v.state) rows e };
+    ghost refused = { λ v rows w e. RefusesCells cells_in
+        (form_as (F.says v.function) v.options.now, v.state) rows e };
 
     fn refuse_long(&mut self) -> RunError {
         let error = RowError::Bad(RowFault::TooLong);
@@ -116,24 +121,34 @@ impl<'f, V: CellJob> JobContract for RowCells<'f, V> {
         Ok(())
     }
 
-    ghost none_taken = { λ v.
-        ([], have_none cells_in (v.options.now, v.state), V.none_taken v.job) };
+    ghost none_taken = { λ v. (
+      [],
+      have_none cells_in (form_as (F.says v.function) v.options.now, v.state),
+      V.none_taken v.job,
+    ) };
 
     ghost taken_then = { λ u v w xs ys p q. (
       p.0 ++ q.0,
-      have_then cells_in (u.options.now, u.state) (v.options.now, v.state)
-          (w.options.now, w.state) xs ys p.0 q.0 p.1 q.1,
+      have_then cells_in (form_as (F.says u.function) u.options.now, u.state)
+          (form_as (F.says v.function) v.options.now, v.state)
+          (form_as (F.says w.function) w.options.now, w.state) xs ys p.0 q.0 p.1 q.1,
       V.taken_then _ _ _ _ _ p.2 q.2,
     ) };
 
     ghost refused_then = { λ u v w xs ys e p q.
-        refuses_after cells_in (u.options.now, u.state) (v.options.now, v.state) xs ys p.0 e
-        p.1 q };
+        refuses_after cells_in (form_as (F.says u.function) u.options.now, u.state)
+        (form_as (F.says v.function) v.options.now, v.state) xs ys p.0 e p.1 q };
 }
 
-impl<'f, V: CellJob> Job for RowCells<'f, V> {
+impl<'f, F: CellFunction, V: CellJob> Job for RowCells<'f, F, V> {
     fn take(&mut self, row: &[u8], inside: bool) -> Result<(), RunError> {
-        match find_cell(self.options, self.state, row_of(row), inside) {
+        match find_cell(
+            &self.function,
+            self.options,
+            self.state,
+            row_of(row),
+            inside,
+        ) {
             Ok((None, state)) => {
                 self.state = state;
                 Ok(())
@@ -158,11 +173,18 @@ impl<'f, V: CellJob> Job for RowCells<'f, V> {
         let Some(columns) = self.state.columns else {
             return Ok(None);
         };
-        match find_plain_cell(self.options, self.state.number, columns, bytes) {
+        match find_plain_cell(
+            &self.function,
+            self.options,
+            self.state.number,
+            columns,
+            bytes,
+        ) {
             Some(found) => {
                 let size = found.row.body.len() + found.row.returns;
                 self.state.count();
-                self.job.take(found.cell, None)?;
+                let place = self.job.look_for(found.cell);
+                self.job.take(found.cell, place)?;
                 Ok(Some(&bytes[size + 1..]))
             }
             None => Ok(None),
@@ -183,7 +205,8 @@ fn end_rows(options: &RowOptions, state: RowState) -> Result<(), AnswerError>
 }
 
 /// Has the cells of rows taken, read in pages.
-fn take_pages<V: CellJob + Drop, R: Source>(
+fn take_pages<F: CellFunction + Drop, V: CellJob + Drop, R: Source>(
+    function: F,
     job: V,
     options: &RowOptions,
     input: &mut R,
@@ -192,13 +215,14 @@ fn take_pages<V: CellJob + Drop, R: Source>(
     requires first { V.count job ≡ 0 }
     requires page { LONGEST + PAGE ≤ vec_capacity page.old }
     ensures taken { IfOk result (λ after. (cells : List Address)
-        × AllRowsRead (form_of options.now []) (Ok cells) (R.left input.old) (R.left input.new)
+        × AllRowsRead (form_as (F.says function) options.now) (Ok cells) (R.left input.old) (R.left input.new)
         × V.taken job cells after) }
     ensures sound { IfOk result (λ after. R.has_failed input.new ≡ R.has_failed input.old) }
-    ensures refused { IfErr result (λ e. RefusesRows (form_of options.now [])
+    ensures refused { IfErr result (λ e. RefusesRows (form_as (F.says function) options.now)
         (R.left input.old) (R.left input.new) (R.has_failed input.old) (R.has_failed input.new) e) }
 {
     let mut rows = RowCells {
+        function,
         job,
         options,
         state: first_state(options),
@@ -211,6 +235,7 @@ fn take_pages<V: CellJob + Drop, R: Source>(
     match end_rows(options, rows.state) {
         Ok(()) => {
             let RowCells {
+                function: _,
                 job,
                 options: _,
                 state: _,
@@ -219,6 +244,32 @@ fn take_pages<V: CellJob + Drop, R: Source>(
         }
         Err(error) => Err(RunError::Error(error)),
     }
+}
+
+/// As `take_row_cells`, but for the index of a cell it takes what the function says: a cell; nothing, and the row is
+/// passed over; or an error, which is that of the row.
+///
+/// # Errors
+///
+/// As of `take_row_cells`; the error of a row that has an index is what the function says.
+pub fn take_row_cells_as<F: CellFunction + Drop, V: CellJob + Drop, R: Source>(
+    alloc: Global,
+    function: F,
+    job: V,
+    options: &RowOptions,
+    input: &mut R,
+) -> Result<V, RunError>
+    requires { V.count job ≡ 0 }
+    ensures taken { IfOk result (λ after. (cells : List Address)
+        × AllRowsRead (form_as (F.says function) options.now) (Ok cells)
+        (R.left input.old) (R.left input.new)
+        × V.taken job cells after) }
+    ensures sound { IfOk result (λ after. R.has_failed input.new ≡ R.has_failed input.old) }
+    ensures refused { IfErr result (λ e. RefusesRows (form_as (F.says function) options.now)
+        (R.left input.old) (R.left input.new) (R.has_failed input.old) (R.has_failed input.new) e) }
+{
+    let mut page = row_page(alloc, LONGEST, PAGE)?;
+    take_pages(function, job, options, input, &mut page)
 }
 
 /// Has a job take the cells of the rows of a list, one after another, in their order, and returns it.
@@ -247,6 +298,5 @@ pub fn take_row_cells<V: CellJob + Drop, R: Source>(
     ensures refused { IfErr result (λ e. RefusesRows (form_of options.now [])
         (R.left input.old) (R.left input.new) (R.has_failed input.old) (R.has_failed input.new) e) }
 {
-    let mut page = row_page(alloc, LONGEST, PAGE)?;
-    take_pages(job, options, input, &mut page)
+    take_row_cells_as(alloc, Itself, job, options, input)
 }

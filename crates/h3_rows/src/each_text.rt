@@ -60,6 +60,7 @@ impl<'f, F: TextFunction> RowFunction for Texts<'f, F> {
         block: &mut [u8; BLOCK],
         at: usize,
     ) -> Option<usize> {
+        work.place = self.function.look_for(index, work.place);
         match self.function.text(Some(index), &mut work.place) {
             Ok(text) if text.len() < ANSWER => Some(hold_row(block, at, text, b'\n')),
             _ => None,

@@ -125,6 +125,7 @@ impl<'f, F: AnswerLine> RowFunction for Short<'f, F> {
         block: &mut [u8; BLOCK],
         at: usize,
     ) -> Option<usize> {
+        work.place = self.function.look_for(index, work.place);
         match self.function.put(Some(index), &mut work.place, block, at) {
             Ok(last) => Some(last),
             Err(_) => None,

@@ -29,12 +29,12 @@ mod table;
 mod write;
 
 pub use areas::{AreaTable, read_areas};
-pub use cells::take_row_cells;
+pub use cells::{take_row_cells, take_row_cells_as};
 pub use each::answer_rows;
 pub use each_lines::answer_rows_lines;
 pub use each_text::answer_rows_text;
 pub use each_texts::answer_rows_texts;
-pub use named::{NamedJob, take_named_cells};
+pub use named::{NamedJob, take_named_cells, take_named_cells_as};
 pub use names::Names;
 pub use numbers::field_number;
 pub use table::FieldContent;

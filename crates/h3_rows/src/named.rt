@@ -2,13 +2,15 @@
 
 ghost use Rattle.std.specs.Prelude.{◌≡◌, ◌+◌, ◌<◌, ◌≤◌, ◌++◌, ◌∷◌, ◌^◌, ⊤, ℕ, true, List, [], length, option_map, Some, Ok, Err, IfOk, IfErr, IfSome, OnOk, vec_capacity};
 ghost use Rattle.h3_index.specs.Cell.{Address};
+ghost use Rattle.h3_index.specs.Text.{trimmed};
+ghost use Rattle.h3_lines.specs.List.{itself};
 ghost use Rattle.h3_lines.specs.Taking.{HaveCells, RefusesCells};
 ghost use Rattle.h3_lines.specs.TakingLaws.{have_none, have_then, refuses_after};
 ghost use Rattle.h3_lines.specs.declared.run_error.Fault.TheVariants.{Memory};
 ghost use Rattle.h3_lines.specs.declared.run_error.RunError.TheVariants as refusal;
 ghost use Rattle.h3_requests.specs.Rows.{is_counted};
 ghost use Rattle.h3_rows.specs.Line.{line_of};
-ghost use Rattle.h3_rows.specs.Named.{AllNamedRead, Entry, RefusesNamed, entry_list, name_at, named_end, named_found, named_row, table_columns, table_first, table_of, title_list, with_field, with_number, with_text, without_name};
+ghost use Rattle.h3_rows.specs.Named.{AllNamedRead, Entry, IsNumberOf, RefusesNamed, entry_list, name_at, named_end, named_found, named_row, table_as, table_columns, table_first, table_of, title_list, with_field, with_number, with_text, without_name};
 ghost use Rattle.h3_rows.specs.NamedIn.{IsPlainEntry, named_in, table_in};
 ghost use Rattle.h3_rows.specs.Row.{next_number};
 ghost use Rattle.h3_rows.specs.RowForm.{form_of};
@@ -18,7 +20,7 @@ use crate::cells::read_cell;
 use crate::fields::{find_field, read_of, trimmed};
 use crate::header::{chosen_field, columns_in};
 use crate::line::row_of;
-use crate::numbers::field_number;
+use crate::numbers::{field_number, plain_number};
 use crate::plain::{find_plain_cell, find_whole_field};
 use crate::reading::{LONGEST, malformed};
 use crate::row::{EntryRow, Row};
@@ -26,9 +28,10 @@ use crate::state::first_state;
 use crate::table::{FieldContent, TableColumns, TableForm, TableState};
 use h3_index::Cell;
 use h3_lines::{
-    AnswerError, ColumnError, Job, JobContract, MAX_READS, PAGE, RowError, RowFault, RunError,
-    drive, row_page,
+    AnswerError, CellFunction, ColumnError, Itself, Job, JobContract, MAX_READS, PAGE, RowError,
+    RowFault, RunError, drive, row_page,
 };
+use h3_numbers::Number;
 use h3_requests::{CellField, RowOptions};
 use h3_streams::{CountedReader, Source};
 use std::alloc::Global;
@@ -38,7 +41,7 @@ type RowEntry<'r> = (Option<Cell>, &'r [u8]);
 
 /// The columns, by a header.
 fn find_columns(table: &TableForm<'_>, row: &[u8]) -> Result<TableColumns, ColumnError>
-    ensures { result ≡ table_columns (table_in table.now) row.now }
+    ensures { result ≡ table_columns (table_in itself table.now) row.now }
 {
     let cell = columns_in(table.rows, row)?;
     let name = chosen_field(table.rows, table.field, row)?;
@@ -120,17 +123,18 @@ fn with_number(
 }
 
 /// What is read of a row: its cell and its second field, or `None` if the cell is missing.
-fn read_named<'r>(
+fn read_named<'r, F: CellFunction>(
+    function: &F,
     table: &TableForm<'_>,
     number: u64,
     columns: TableColumns,
     row: &'r [u8],
 ) -> Result<Option<RowEntry<'r>>, RowError>
-    ensures ok { IfOk result (λ r. named_row (table_in table.now) number columns row.now
+    ensures ok { IfOk result (λ r. named_row (table_in (F.says function.now) table.now) number columns row.now
         ≡ Ok (option_map (λ p. (p.0, p.1.now)) r)) }
-    ensures err { IfErr result (λ e. named_row (table_in table.now) number columns row.now ≡ Err e) }
+    ensures err { IfErr result (λ e. named_row (table_in (F.says function.now) table.now) number columns row.now ≡ Err e) }
 {
-    let cell = read_cell(table.rows, number, columns.cell, row);
+    let cell = read_cell(function, table.rows, number, columns.cell, row);
     let field = find_name(table, columns.name, read_of(number, row));
     match table.content {
         FieldContent::Text => with_text(cell, field),
@@ -139,7 +143,8 @@ fn read_named<'r>(
 }
 
 /// What is read of a row, if anything, and the state after it; or the error that ends the table.
-fn find_named<'r>(
+fn find_named<'r, F: CellFunction>(
+    function: &F,
     table: &TableForm<'_>,
     state: TableState,
     row: Row<'r>,
@@ -150,13 +155,13 @@ fn find_named<'r>(
     ensures more { IfOk result (λ r. state.number + 1 ≤ r.1.number) }
     ensures number { IfOk result (λ r. r.1.number ≡ next_number state.number (line_of row.entry)) }
     ensures ok { IfOk result (λ r.
-        named_found (table_in table.now) state.number state.columns (line_of row.entry, inside)
+        named_found (table_in (F.says function.now) table.now) state.number state.columns (line_of row.entry, inside)
         ≡ record {
           cells = Ok (entry_list state.number (option_map (λ p. (p.0, p.1.now)) r.0));
           columns = r.1.columns;
         }) }
     ensures err { IfErr result (λ e.
-        (named_found (table_in table.now) state.number state.columns (line_of row.entry, inside)).cells
+        (named_found (table_in (F.says function.now) table.now) state.number state.columns (line_of row.entry, inside)).cells
         ≡ Err e) }
 {
     let number = state.number;
@@ -175,24 +180,31 @@ fn find_named<'r>(
             }
             Err(error) => Err(AnswerError::Column(error)),
         },
-        Some(columns) => match read_named(table, number, columns, row.body) {
+        Some(columns) => match read_named(function, table, number, columns, row.body) {
             Ok(entry) => Ok((entry, state.after(row, state.columns))),
             Err(error) => Err(AnswerError::AtRow(number, error)),
         },
     }
 }
 
-/// Whether a second field has what it should.
-fn has_content(table: &TableForm<'_>, field: &[u8]) -> bool
-    ensures { result ≡ true → (cell : Address) →
+/// What is known of a second field that has what it should: its number, if that is to be seen at once.
+/// `None` if it has not.
+#[inline(always)]
+fn find_content(table: &TableForm<'_>, field: &[u8]) -> Option<Option<Number>>
+    requires { trimmed field.now ≡ field.now }
+    ensures has { IfSome result (λ known. (cell : Address) →
         with_field table.now.content table.now.rows.now.quotes (Ok (Some cell)) (Some field.now)
-        ≡ Ok (Some (Some cell, field.now)) }
+        ≡ Ok (Some (Some cell, field.now))) }
+    ensures known { IfSome result (λ known. IfSome known (IsNumberOf field.now)) }
 {
     match table.content {
-        FieldContent::Text => true,
-        FieldContent::Number => match field_number(table.rows.quotes, field) {
-            Some(_) => true,
-            None => false,
+        FieldContent::Text => Some(None),
+        FieldContent::Number => match plain_number(field) {
+            Some(number) => Some(Some(number)),
+            None => match field_number(table.rows.quotes, field) {
+                Some(_) => Some(None),
+                None => None,
+            },
         },
     }
 }
@@ -201,16 +213,18 @@ fn has_content(table: &TableForm<'_>, field: &[u8]) -> bool
 /// plain and not the first one, its cell a plain text and valid, and its second field whole, with what it should
 /// have. `None` may be answered to any other bytes, and if a stop is near to their end.
 #[inline(always)]
-fn find_plain_entry<'b>(
+fn find_plain_entry<'b, F: CellFunction>(
+    function: &F,
     table: &TableForm<'_>,
     number: u64,
     columns: TableColumns,
     bytes: &'b [u8],
 ) -> Option<EntryRow<'b>>
-    ensures { IfSome result (λ r.
-        IsPlainEntry (table_in table.now) number columns bytes.now r.cell r.field.now r.size) }
+    ensures is { IfSome result (λ r.
+        IsPlainEntry (table_in (F.says function.now) table.now) number columns bytes.now r.cell r.field.now r.size) }
+    ensures known { IfSome result (λ r. IfSome r.number (IsNumberOf r.field.now)) }
 {
-    let Some(found) = find_plain_cell(table.rows, number, columns.cell, bytes) else {
+    let Some(found) = find_plain_cell(function, table.rows, number, columns.cell, bytes) else {
         return None;
     };
     let separator = table.rows.separator;
@@ -218,12 +232,11 @@ fn find_plain_entry<'b>(
     let end = found.row.body.len();
     let field = find_whole_field(separator, quotes, columns.name, end, bytes)?;
     let field = trimmed(field);
-    if !has_content(table, field) {
-        return None;
-    }
+    let known = find_content(table, field)?;
     Some(EntryRow {
         cell: found.cell,
         field,
+        number: known,
         size: end + found.row.returns,
     })
 }
@@ -236,10 +249,18 @@ pub trait NamedJob {
     /// From the one to the other these entries were taken, in this order.
     ghost taken: { Self → List Entry → Self → Type 0 };
 
-    /// Takes a cell, the second field of its row, without the blanks at both ends, and the row's number;
-    /// or, if `cell` is `None`, the same of a header. `Fault::Memory` if there is no memory for them.
-    fn take(&mut self, cell: Option<Cell>, field: &[u8], row: u64) -> Result<(), RunError>
+    /// Takes a cell, the second field of its row, without the blanks at both ends, the number in this, if
+    /// that is known already, and the row's number; or, if `cell` is `None`, the same of a header.
+    /// `Fault::Memory` if there is no memory for them.
+    fn take(
+        &mut self,
+        cell: Option<Cell>,
+        field: &[u8],
+        known: Option<Number>,
+        row: u64,
+    ) -> Result<(), RunError>
         requires few { count self.old < 2 ^ 63 }
+        requires known { IfSome known (IsNumberOf field.now) }
         ensures ok { OnOk result
             (taken self.old (record { cell = cell; field = field.now; row = row } ∷ []) self.new) }
         ensures counted { count self.new ≤ count self.old + 1 }
@@ -254,14 +275,15 @@ pub trait NamedJob {
 /// A job over rows that gives their cells and second fields to a job over these. It knows the state
 /// before the next row.
 #[derive(Drop)]
-struct NamedRows<'f, V: NamedJob> {
+struct NamedRows<'f, F: CellFunction, V: NamedJob> {
+    function: F,
     job: V,
     table: &'f TableForm<'f>,
     state: TableState,
     ghost few: { V.count job ≤ state.number },
 }
 
-impl<'f, V: NamedJob> JobContract for NamedRows<'f, V> {
+impl<'f, F: CellFunction, V: NamedJob> JobContract for NamedRows<'f, F, V> {
     ghost longest = { LONGEST };
 
     ghost count = { λ v. v.state.number };
@@ -269,10 +291,12 @@ impl<'f, V: NamedJob> JobContract for NamedRows<'f, V> {
     ghost settled = { λ v. ⊤ };
 
     ghost taken = { λ v rows w. (entries : List Entry)
-        × HaveCells named_in (v.table.now, v.state) rows entries (w.table.now, w.state)
+        × HaveCells named_in (table_in (F.says v.function) v.table.now, v.state) rows entries
+        (table_in (F.says w.function) w.table.now, w.state)
         × V.taken v.job entries w.job };
 
-    ghost refused = { λ v rows w e. RefusesCells named_in (v.table.now, v.state) rows e };
+    ghost refused = { λ v rows w e. RefusesCells named_in
+        (table_in (F.says v.function) v.table.now, v.state) rows e };
 
     fn refuse_long(&mut self) -> RunError {
         let error = RowError::Bad(RowFault::TooLong);
@@ -283,32 +307,36 @@ impl<'f, V: NamedJob> JobContract for NamedRows<'f, V> {
         Ok(())
     }
 
-    ghost none_taken = { λ v.
-        ([], have_none named_in (v.table.now, v.state), V.none_taken v.job) };
+    ghost none_taken = { λ v. (
+      [],
+      have_none named_in (table_in (F.says v.function) v.table.now, v.state),
+      V.none_taken v.job,
+    ) };
 
     ghost taken_then = { λ u v w xs ys p q. (
       p.0 ++ q.0,
-      have_then named_in (u.table.now, u.state) (v.table.now, v.state)
-          (w.table.now, w.state) xs ys p.0 q.0 p.1 q.1,
+      have_then named_in (table_in (F.says u.function) u.table.now, u.state)
+          (table_in (F.says v.function) v.table.now, v.state)
+          (table_in (F.says w.function) w.table.now, w.state) xs ys p.0 q.0 p.1 q.1,
       V.taken_then _ _ _ _ _ p.2 q.2,
     ) };
 
     ghost refused_then = { λ u v w xs ys e p q.
-        refuses_after named_in (u.table.now, u.state) (v.table.now, v.state) xs ys p.0 e
-        p.1 q };
+        refuses_after named_in (table_in (F.says u.function) u.table.now, u.state)
+        (table_in (F.says v.function) v.table.now, v.state) xs ys p.0 e p.1 q };
 }
 
-impl<'f, V: NamedJob> Job for NamedRows<'f, V> {
+impl<'f, F: CellFunction, V: NamedJob> Job for NamedRows<'f, F, V> {
     fn take(&mut self, row: &[u8], inside: bool) -> Result<(), RunError> {
         let number = self.state.number;
-        match find_named(self.table, self.state, row_of(row), inside) {
+        match find_named(&self.function, self.table, self.state, row_of(row), inside) {
             Ok((None, state)) => {
                 self.state = state;
                 Ok(())
             }
             Ok((Some((cell, field)), state)) => {
                 self.state = state;
-                self.job.take(cell, field, number)
+                self.job.take(cell, field, None, number)
             }
             Err(error) => Err(RunError::Error(error)),
         }
@@ -327,10 +355,11 @@ impl<'f, V: NamedJob> Job for NamedRows<'f, V> {
             return Ok(None);
         };
         let number = self.state.number;
-        match find_plain_entry(self.table, number, columns, bytes) {
+        match find_plain_entry(&self.function, self.table, number, columns, bytes) {
             Some(found) => {
                 self.state.count();
-                self.job.take(Some(found.cell), found.field, number)?;
+                self.job
+                    .take(Some(found.cell), found.field, found.number, number)?;
                 Ok(Some(&bytes[found.size + 1..]))
             }
             None => Ok(None),
@@ -341,7 +370,7 @@ impl<'f, V: NamedJob> Job for NamedRows<'f, V> {
 /// The state at the beginning of a table.
 fn first_table_state(table: &TableForm<'_>) -> TableState
     ensures number { result.number ≡ 1 }
-    ensures columns { result.columns ≡ table_first (table_in table.now) }
+    ensures columns { result.columns ≡ table_first (table_in itself table.now) }
 {
     let columns = match (first_state(table.rows).columns, table.field) {
         (Some(cell), CellField::Number(number)) => Some(TableColumns {
@@ -355,8 +384,8 @@ fn first_table_state(table: &TableForm<'_>) -> TableState
 
 /// Ends a table, all of whose rows are read.
 fn end_table(table: &TableForm<'_>, state: TableState) -> Result<(), AnswerError>
-    ensures ok { OnOk result (named_end (table_in table.now) state.columns ≡ Ok []) }
-    ensures err { IfErr result (λ e. named_end (table_in table.now) state.columns ≡ Err e) }
+    ensures ok { OnOk result (named_end (table_in itself table.now) state.columns ≡ Ok []) }
+    ensures err { IfErr result (λ e. named_end (table_in itself table.now) state.columns ≡ Err e) }
 {
     match (state.columns, &table.rows.field, table.field) {
         (Some(_), _, _) => Ok(()),
@@ -366,7 +395,8 @@ fn end_table(table: &TableForm<'_>, state: TableState) -> Result<(), AnswerError
 }
 
 /// Has the cells and second fields of a table taken, read in pages.
-fn take_named_pages<V: NamedJob + Drop, R: Source>(
+fn take_named_pages<F: CellFunction + Drop, V: NamedJob + Drop, R: Source>(
+    function: F,
     job: V,
     table: &TableForm<'_>,
     input: &mut R,
@@ -375,13 +405,14 @@ fn take_named_pages<V: NamedJob + Drop, R: Source>(
     requires first { V.count job ≡ 0 }
     requires page { LONGEST + PAGE ≤ vec_capacity page.old }
     ensures taken { IfOk result (λ after. (entries : List Entry)
-        × AllNamedRead (table_in table.now) (Ok entries) (R.left input.old) (R.left input.new)
+        × AllNamedRead (table_in (F.says function) table.now) (Ok entries) (R.left input.old) (R.left input.new)
         × V.taken job entries after) }
     ensures sound { IfOk result (λ after. R.has_failed input.new ≡ R.has_failed input.old) }
-    ensures refused { IfErr result (λ e. RefusesNamed (table_in table.now)
+    ensures refused { IfErr result (λ e. RefusesNamed (table_in (F.says function) table.now)
         (R.left input.old) (R.left input.new) (R.has_failed input.old) (R.has_failed input.new) e) }
 {
     let mut rows = NamedRows {
+        function,
         job,
         table,
         state: first_table_state(table),
@@ -401,6 +432,7 @@ fn take_named_pages<V: NamedJob + Drop, R: Source>(
     match end_table(table, rows.state) {
         Ok(()) => {
             let NamedRows {
+                function: _,
                 job,
                 table: _,
                 state: _,
@@ -409,6 +441,41 @@ fn take_named_pages<V: NamedJob + Drop, R: Source>(
         }
         Err(error) => Err(RunError::Error(error)),
     }
+}
+
+/// As `take_named_cells`, but for the index of a cell it takes what the function says: a cell; nothing, and the row is
+/// passed over; or an error, which is that of the row.
+///
+/// # Errors
+///
+/// As of `take_named_cells`; the error of a row that has an index is what the function says.
+pub fn take_named_cells_as<F: CellFunction + Drop, V: NamedJob + Drop, R: Source>(
+    alloc: Global,
+    function: F,
+    job: V,
+    rows: &RowOptions,
+    field: &CellField,
+    content: FieldContent,
+    input: &mut R,
+) -> Result<V, RunError>
+    requires none { V.count job ≡ 0 }
+    requires counted { is_counted field.now ≡ true }
+    ensures taken { IfOk result (λ after. (entries : List Entry)
+        × AllNamedRead (table_as (F.says function) rows.now field.now content) (Ok entries)
+        (R.left input.old) (R.left input.new)
+        × V.taken job entries after) }
+    ensures sound { IfOk result (λ after. R.has_failed input.new ≡ R.has_failed input.old) }
+    ensures refused { IfErr result (λ e.
+        RefusesNamed (table_as (F.says function) rows.now field.now content)
+        (R.left input.old) (R.left input.new) (R.has_failed input.old) (R.has_failed input.new) e) }
+{
+    let mut page = row_page(alloc, LONGEST, PAGE)?;
+    let table = TableForm {
+        rows,
+        field,
+        content,
+    };
+    take_named_pages(function, job, &table, input, &mut page)
 }
 
 /// Has a job take the cells of a table with the second fields of their rows, one after another, in their
@@ -444,11 +511,5 @@ pub fn take_named_cells<V: NamedJob + Drop, R: Source>(
     ensures refused { IfErr result (λ e. RefusesNamed (table_of rows.now field.now content)
         (R.left input.old) (R.left input.new) (R.has_failed input.old) (R.has_failed input.new) e) }
 {
-    let mut page = row_page(alloc, LONGEST, PAGE)?;
-    let table = TableForm {
-        rows,
-        field,
-        content,
-    };
-    take_named_pages(job, &table, input, &mut page)
+    take_named_cells_as(alloc, Itself, job, rows, field, content, input)
 }

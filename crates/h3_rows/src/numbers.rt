@@ -1,8 +1,9 @@
 //! The numbers in fields.
 
-ghost use Rattle.std.specs.Prelude.{◌≡◌, option_map};
+ghost use Rattle.std.specs.Prelude.{◌≡◌, option_map, IfSome};
+ghost use Rattle.h3_index.specs.Text.{trimmed};
 ghost use Rattle.h3_numbers.specs.Number.{number_units};
-ghost use Rattle.h3_rows.specs.Named.{number_in, number_of_text};
+ghost use Rattle.h3_rows.specs.Named.{IsNumberOf, number_in, number_of_text};
 
 use crate::fields::{field_text, trimmed};
 use h3_numbers::{Number, read_number};
@@ -15,6 +16,19 @@ fn number_of_text(text: &[u8]) -> Option<Number>
         return Some(Number::zero());
     }
     read_number(text)
+}
+
+/// The number that a field is as it stands, without blanks at its ends: with no quotes around it, and not
+/// blank.
+#[inline(always)]
+pub(crate) fn plain_number(field: &[u8]) -> Option<Number>
+    requires { trimmed field.now ≡ field.now }
+    ensures { IfSome result (IsNumberOf field.now) }
+{
+    if field.is_empty() || field[0] == b'"' {
+        return None;
+    }
+    read_number(field)
 }
 
 /// Returns the number in a field, which is 0 if its text is blank; `None` if the text is not a number.

@@ -7,13 +7,14 @@ ghost use Rattle.std.specs.List.{list_all};
 ghost use Rattle.h3_lines.specs.Pieces.{cut};
 ghost use Rattle.h3_rows.specs.Plain.{EndsPlain, IsPlainCell, IsPlainField, IsPlainRow, IsWhole, IsWholeRow, PassesFields, is_byte4, quote_or_feed};
 ghost use Rattle.h3_rows.specs.Row.{field_text, piece_at};
-ghost use Rattle.h3_rows.specs.RowForm.{form_of};
+ghost use Rattle.h3_rows.specs.RowForm.{form_as};
 
 use crate::lanes::find_stop;
 use crate::reading::LONGEST_ROW;
 use crate::row::{CellRow, Row};
 use crate::state::Columns;
-use h3_index::{Cell, read_plain};
+use h3_index::read_plain;
+use h3_lines::CellFunction;
 use h3_requests::RowOptions;
 
 /// The quote if quotes count, and else a line feed: what a field without quotes does not have.
@@ -245,16 +246,17 @@ pub(crate) fn find_plain(
     Some((Row { body, returns }, &rest[..end]))
 }
 
-/// The cell of the row that bytes begin with, and that row, if it is plain and not the first one, and its cell a
-/// plain text and valid. `None` may be answered to any other bytes, and if a stop is near to their end.
+/// What is taken for the cell of the row that bytes begin with, and that row, if it is plain and not the first one,
+/// and its cell a plain text for which a cell is taken. `None` may be answered to any other bytes, and if a stop is near to their end.
 #[inline(always)]
-pub(crate) fn find_plain_cell<'b>(
+pub(crate) fn find_plain_cell<'b, F: CellFunction>(
+    function: &F,
     options: &RowOptions,
     number: u64,
     columns: Columns,
     bytes: &'b [u8],
 ) -> Option<CellRow<'b>>
-    ensures { IfSome result (λ r. IsPlainCell (form_of options.now []) number columns bytes.now
+    ensures { IfSome result (λ r. IsPlainCell (form_as (F.says function.now) options.now) number columns bytes.now
         r.row.body.now r.row.returns r.cell) }
 {
     let (row, field) = find_plain(options.separator, options.quotes, columns, bytes)?;
@@ -263,9 +265,9 @@ pub(crate) fn find_plain_cell<'b>(
     if number == 1 || row.body.is_empty() || row.body.len() > LONGEST_ROW {
         return None;
     }
-    match Cell::new(index) {
-        Ok(cell) => Some(CellRow { row, cell }),
-        Err(_) => None,
+    match function.cell_of(index) {
+        Ok(Some(cell)) => Some(CellRow { row, cell }),
+        _ => None,
     }
 }
 

@@ -4,6 +4,7 @@ ghost use Rattle.std.specs.Prelude.{◌≡◌, ◌<◌, ◌^◌};
 ghost use Rattle.h3_rows.specs.Row.{row_body};
 
 use h3_index::Cell;
+use h3_numbers::Number;
 
 /// A row: its bytes without its ending, and how many carriage returns are before the line feed.
 #[derive(Clone, Copy, Drop)]
@@ -36,6 +37,9 @@ pub struct EntryRow<'r> {
 
     /// The second field, without the blanks at both ends.
     pub field: &'r [u8],
+
+    /// The number in it, if that is known.
+    pub number: Option<Number>,
 
     /// How many bytes the row has, with its carriage returns.
     pub size: usize,

@@ -1,11 +1,9 @@
-use Rattle.std.proofs.Common.{◌≡◌, ◌∷◌, [], ◌++◌, take, ap, ◌∙◌, sym, subst, arith}
+use Rattle.std.proofs.Common.{◌++◌, take, sym, subst, arith}
 use Rattle.std.proofs.lemmas.List.{nil_from_length}
 use Rattle.std.proofs.lemmas.Result.{IfErr-weaker, IfOk-weaker}
 use Rattle.h3_lines.specs.Answering.{Breaks, Moves}
-use Rattle.h3_lines.specs.EachTexts.{lines_or}
 use Rattle.h3_lines.specs.Write.{sink_use}
 use Rattle.h3_rows.specs.Line.{line_of}
-use Rattle.h3_rows.specs.RowsAnswer.{row_with, rows_with}
 use Rattle.h3_rows.proofs.Beside.{none_first}
 use Rattle.h3_rows.proofs.each_texts.put_texts.Goals as goal
 

@@ -1,17 +1,17 @@
-use Rattle.std.proofs.Common.{◌≡◌, [], Ok, Err, None, false, true, option_map, sym, ap, ◌∙◌, refl}
+use Rattle.std.proofs.Common.{◌≡◌, Ok, Err, None, false, true, option_map, sym, ap, ◌∙◌, refl}
 use Rattle.h3_rows.specs.Line.{line_of}
 use Rattle.h3_rows.specs.Named.{entry_list, name_at, named_row, table_columns, title_list}
 use Rattle.h3_rows.specs.NamedIn.{table_in}
+use Rattle.h3_rows.specs.RowForm.{form_as}
 use Rattle.h3_rows.specs.Row.{is_empty_row, read_of, row_body}
-use Rattle.h3_rows.specs.RowForm.{form_of}
 use Rattle.h3_rows.specs.RowsAnswer.{malformed}
 use Rattle.h3_rows.proofs.Returns.{body_of_row}
 use Rattle.h3_rows.proofs.named.find_named.Goals as goal
 
 pub returns-then-is_empty-clause-ok : goal.returns-then-is_empty-clause-ok
-returns-then-is_empty-clause-ok c =
+returns-then-is_empty-clause-ok g c =
     let r = c.args.row in
-    let form = form_of c.args.table.now.rows.now [] in
+    let form = form_as (g.F.CellFunction.says c.args.function.now) c.args.table.now.rows.now in
     let body = body_of_row r.body.now r.returns r.bare in
     let sound : malformed form c.args.state.number (line_of r, c.args.inside) ≡ None =
     sym c.malformed.ensures ∙ c.in_default.is in
@@ -22,10 +22,10 @@ returns-then-is_empty-clause-ok c =
     rw (sound, empty, c.after.ensures.columns) refl
 
 pub returns-in-Ok-clause-ok : goal.returns-in-Ok-clause-ok
-returns-in-Ok-clause-ok c =
+returns-in-Ok-clause-ok g c =
     let r = c.args.row in
-    let table = table_in c.args.table.now in
-    let form = form_of c.args.table.now.rows.now [] in
+    let table = table_in (g.F.CellFunction.says c.args.function.now) c.args.table.now in
+    let form = form_as (g.F.CellFunction.says c.args.function.now) c.args.table.now.rows.now in
     let body = body_of_row r.body.now r.returns r.bare in
     let sound : malformed form c.args.state.number (line_of r, c.args.inside) ≡ None =
     sym c.malformed.ensures ∙ c.in_default.is in
@@ -40,10 +40,10 @@ returns-in-Ok-clause-ok c =
     rw (sound, filled, c.in-None.is, columns, title, c.after-in-Ok.ensures.columns) refl
 
 pub returns-in-Err-clause-err : goal.returns-in-Err-clause-err
-returns-in-Err-clause-err c =
+returns-in-Err-clause-err g c =
     let r = c.args.row in
-    let table = table_in c.args.table.now in
-    let form = form_of c.args.table.now.rows.now [] in
+    let table = table_in (g.F.CellFunction.says c.args.function.now) c.args.table.now in
+    let form = form_as (g.F.CellFunction.says c.args.function.now) c.args.table.now.rows.now in
     let body = body_of_row r.body.now r.returns r.bare in
     let sound : malformed form c.args.state.number (line_of r, c.args.inside) ≡ None =
     sym c.malformed.ensures ∙ c.in_default.is in
@@ -56,10 +56,10 @@ returns-in-Err-clause-err c =
     rw (sound, filled, c.in-None.is, columns) refl
 
 pub returns-in-Ok-read_named-clause-ok : goal.returns-in-Ok-read_named-clause-ok
-returns-in-Ok-read_named-clause-ok c =
+returns-in-Ok-read_named-clause-ok g c =
     let r = c.args.row in
-    let table = table_in c.args.table.now in
-    let form = form_of c.args.table.now.rows.now [] in
+    let table = table_in (g.F.CellFunction.says c.args.function.now) c.args.table.now in
+    let form = form_as (g.F.CellFunction.says c.args.function.now) c.args.table.now.rows.now in
     let body = body_of_row r.body.now r.returns r.bare in
     let sound : malformed form c.args.state.number (line_of r, c.args.inside) ≡ None =
     sym c.malformed.ensures ∙ c.in_default.is in
@@ -73,10 +73,10 @@ returns-in-Ok-read_named-clause-ok c =
     rw (sound, filled, c.after-in-Ok-read_named.ensures.columns, c.in-Some-columns.is, named) refl
 
 pub returns-in-Err-read_named-clause-err : goal.returns-in-Err-read_named-clause-err
-returns-in-Err-read_named-clause-err c =
+returns-in-Err-read_named-clause-err g c =
     let r = c.args.row in
-    let table = table_in c.args.table.now in
-    let form = form_of c.args.table.now.rows.now [] in
+    let table = table_in (g.F.CellFunction.says c.args.function.now) c.args.table.now in
+    let form = form_as (g.F.CellFunction.says c.args.function.now) c.args.table.now.rows.now in
     let body = body_of_row r.body.now r.returns r.bare in
     let sound : malformed form c.args.state.number (line_of r, c.args.inside) ≡ None =
     sym c.malformed.ensures ∙ c.in_default.is in

@@ -1,7 +1,7 @@
 use Rattle.std.proofs.Common.{◌+◌, ◌++◌, ◌∷◌, ℕ, List, [], length, replicate, false}
 use Rattle.std.proofs.lemmas.List.{take_rest}
 use Rattle.h3_lines.specs.Pieces.{CutsAt}
-use Rattle.h3_rows.specs.RowForm.{form_of}
+use Rattle.h3_rows.specs.RowForm.{form_as}
 use Rattle.h3_rows.proofs.PlainAnswers.{first_cut}
 use Rattle.h3_rows.proofs.PlainCells.{cell_cuts, plain_have}
 use Rattle.h3_rows.proofs.Returns.{row_length}
@@ -11,7 +11,7 @@ pub returns-in_ok-take-in-Some-find_plain_cell-clause-some :
     goal.returns-in_ok-take-in-Some-find_plain_cell-clause-some
 returns-in_ok-take-in-Some-find_plain_cell-clause-some g c =
     let v = c.args.self.now in
-    let form = form_of v.options.now [] in
+    let form = form_as (g.F.CellFunction.says v.function) v.options.now in
     let found = c.in-Some-find_plain_cell.found in
     let row : List ℕ = found.row.body.now in
     let n = found.row.returns in
@@ -25,7 +25,7 @@ returns-in_ok-take-in-Some-find_plain_cell-clause-some g c =
       rows = λ rest. first_cut c.args.quotes c.args.bytes.now line p.after (length row + n) cuts (row_length row n) rest;
       takes = (
         found.cell ∷ [],
-        plain_have v.options.now v.state c.count.new.self k c.args.bytes.now row n found.cell p c.in-Some.is
+        plain_have form v.state c.count.new.self k c.args.bytes.now row n found.cell p c.in-Some.is
             c.count.ensures.number c.count.ensures.columns,
         c.in_ok-take-in-Some-find_plain_cell.ensures.ok,
       );

@@ -11,9 +11,9 @@ pub returns-in_ok-take-in-Some-find_plain_entry-clause-some :
     goal.returns-in_ok-take-in-Some-find_plain_entry-clause-some
 returns-in_ok-take-in-Some-find_plain_entry-clause-some g c =
     let v = c.args.self.now in
-    let table = table_in v.table.now in
+    let table = table_in (g.F.CellFunction.says v.function) v.table.now in
     let found = c.in-Some-find_plain_entry.found in
-    let p = c.in-Some-find_plain_entry.ensures in
+    let p = c.in-Some-find_plain_entry.ensures.is in
     let row : List ℕ = p.row in
     let n = p.returns in
     let k = c.in-Some.columns in
@@ -27,7 +27,7 @@ returns-in_ok-take-in-Some-find_plain_entry-clause-some g c =
           (row_length row n ∙ p.size_is) rest;
       takes = (
         record { cell = Some found.cell; field = found.field.now; row = v.state.number } ∷ [],
-        entry_have v.table.now v.state c.count.new.self k c.args.bytes.now found.field.now found.size found.cell p
+        entry_have table v.state c.count.new.self k c.args.bytes.now found.field.now found.size found.cell p
             c.in-Some.is c.count.ensures.number c.count.ensures.columns,
         c.in_ok-take-in-Some-find_plain_entry.ensures.ok,
       );
