@@ -24,6 +24,7 @@ use Rattle.h3_command.specs.AreaTable.{EndsJudged, HoldsAreas}
 use Rattle.h3_command.specs.Areas.{overlap_error}
 use Rattle.h3_command.specs.AreaTally.{named_counts}
 use Rattle.h3_command.specs.Rows.{list_form}
+use Rattle.h3_lines.specs.List.{itself}
 use Rattle.h3_command.specs.Run.{EndsNumberedList}
 use Rattle.h3_command.proofs.Joining.{not_refused}
 
@@ -96,11 +97,11 @@ pub ends_counted : AlikeAreas
     (input : SourceUse) (ending : Result (Unit {0}) RunError) (out : SinkUse)
     → HoldsAreas options.table.rows.quotes entries table → overlap_error options.overlapping table.cells.items ≡ None
     → AreAlike areas table.cells.items → title ≡ unwrap_or (option_map (λ t. t.items) table.title) (codes "zone")
-    → EndsNumberedList (list_form list) (λ cells. written (counts_table options.table.rows.separator (if has_header
+    → EndsNumberedList itself (list_form list) (λ cells. written (counts_table options.table.rows.separator (if has_header
     options list then Some title else None) (area_counts (string_bytes options.none)
     (names_in table.names.bytes.items table.names.spans.items) areas cells))) input ending out
     → EndsJudged (overlap_error options.overlapping (area_cells options.table.rows.quotes entries))
-    (EndsNumberedList (list_form list) (area_counts_answer options list entries) input ending out) input ending out
+    (EndsNumberedList itself (list_form list) (area_counts_answer options list entries) input ending out) input ending out
 ends_counted law options list entries table areas title input ending out holds free alike titled ends =
     let none = string_bytes options.none in
     let separator = options.table.rows.separator in
@@ -119,7 +120,7 @@ ends_counted law options list entries table areas title input ending out holds f
     (area_counts none (area_names quotes entries) (area_cells quotes entries) cells))) title_is in
     inl (
       ap (overlap_error options.overlapping) (sym holds.cells) ∙ free,
-      subst (λ about. EndsNumberedList (list_form list) about input ending out) (fun_ext at) ends,
+      subst (λ about. EndsNumberedList itself (list_form list) about input ending out) (fun_ext at) ends,
     )
 
 -- ---- what is printed adds up

@@ -1,8 +1,8 @@
 -- How the rows of counts are put one after another, and written.
-use Rattle.std.proofs.Common.{◌≡◌, ℕ, ◌+◌, ◌<◌, ◌≤◌, Bool, List, [], ◌∷◌, ◌++◌, get_or, length, map, take, drop, Option, None, Some, unwrap_or, IfNone, IfSome, Result, Ok, Err, sym, ap, ◌∙◌, subst, inl, arith, append-nil, append_assoc, take-append-drop}
+use Rattle.std.proofs.Common.{◌≡◌, ℕ, ◌+◌, ◌<◌, ◌≤◌, Bool, List, [], ◌∷◌, ◌++◌, get_or, length, take, drop, Option, None, Some, unwrap_or, IfNone, IfSome, Result, Err, sym, ap, ◌∙◌, subst, inl, arith, append-nil, append_assoc, take-append-drop}
 use Rattle.std.proofs.lemmas.Grind.{flat_map-append}
 use Rattle.std.proofs.lemmas.List.FromFn.{map-range_with_len_more, take-map-range_with_len}
-use Rattle.std.specs.List.{flat_map, range_with_len}
+use Rattle.std.specs.List.{flat_map}
 use Rattle.h3_lines.specs.Answer.{written}
 use Rattle.h3_lines.specs.Answering.{FailsPush, Moves}
 use Rattle.h3_lines.specs.EachLaws.{moves_then, push_more, push_then}

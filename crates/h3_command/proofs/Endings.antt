@@ -9,8 +9,8 @@ use Rattle.h3_table.specs.Table.{RefusesTable, links_of, table_fault}
 use Rattle.h3_directions.specs.declared.error.TableError.{TableError}
 use Rattle.h3_directions.specs.declared.error.TableError.TheVariants as in_table
 use Rattle.h3_lines.specs.Answer.{Answer, answer_or_error}
-use Rattle.h3_lines.specs.List.{listed_cells}
-use Rattle.h3_lines.specs.Numbered.{faulty_line}
+use Rattle.h3_lines.specs.List.{Says, itself, listed_as, listed_cells}
+use Rattle.h3_lines.specs.Numbered.{faulty_line_as}
 use Rattle.h3_lines.specs.ListRead.{ListRead, ListRefused, RefusesByError, RefusesByLine}
 use Rattle.h3_lines.specs.Reads.{IsReadToEnd, IsWithinReads, NoReadFails, SourceUse, StopsAtFault, StopsWithin}
 use Rattle.h3_lines.specs.RunError.{table_refusal}
@@ -45,28 +45,29 @@ reading_written a bytes was_read source (Err (Fault Write)) out all sound writes
 -- ---- a list
 
 -- a list whose cells are answered is read to its end
-read_whole : (a : Answer) (list : List ℕ) (cells : List Address) (input : SourceUse)
+read_whole : (says : Says) (a : Answer) (list : List ℕ) (cells : List Address) (input : SourceUse)
     (ending : Result (Unit {0}) RunError) (out : SinkUse)
-    → listed_cells list ≡ Ok cells → Writes a ending out → IsReadToEnd input
-    → IsReadSoFar (listed_cells list) input ending
+    → listed_as says list ≡ Ok cells → Writes a ending out → IsReadToEnd input
+    → IsReadSoFar says (listed_as says list) input ending
 unfolding Writes
-read_whole a list cells input (Ok u) out is writes whole = subst (λ l. IsReadSoFar l input (Ok u)) (sym is) whole
-read_whole a list cells input (Err (Error e)) out is writes whole =
-    subst (λ l. IsReadSoFar l input (Err (Error e))) (sym is) whole
-read_whole a list cells input (Err (Fault Memory)) out is never whole = absurd never
-read_whole a list cells input (Err (Fault Read)) out is never whole = absurd never
-read_whole a list cells input (Err (Fault Write)) out is writes whole =
-    subst (λ l. IsReadSoFar l input (Err (Fault Write))) (sym is) whole
+read_whole says a list cells input (Ok u) out is writes whole =
+    subst (λ l. IsReadSoFar says l input (Ok u)) (sym is) whole
+read_whole says a list cells input (Err (Error e)) out is writes whole =
+    subst (λ l. IsReadSoFar says l input (Err (Error e))) (sym is) whole
+read_whole says a list cells input (Err (Fault Memory)) out is never whole = absurd never
+read_whole says a list cells input (Err (Fault Read)) out is never whole = absurd never
+read_whole says a list cells input (Err (Fault Write)) out is writes whole =
+    subst (λ l. IsReadSoFar says l input (Err (Fault Write))) (sym is) whole
 
 -- where there is no memory, a list may not be read to its end
-read_in_part : (cells : Result (List Address) H3Error) (input : SourceUse) → StopsWithin 65536 input
-    → IsReadSoFar cells input (Err (Fault Memory))
-read_in_part (Ok cells) input stops = inr stops
-read_in_part (Err e) input stops = stops
+read_in_part : (says : Says) (cells : Result (List Address) H3Error) (input : SourceUse) → StopsWithin says 65536 input
+    → IsReadSoFar says cells input (Err (Fault Memory))
+read_in_part says (Ok cells) input stops = inr stops
+read_in_part says (Err e) input stops = stops
 
 -- the list is refused
 pub list_refused : (about : List Address → Answer) (input : SourceUse) (e : RunError) (out : SinkUse)
-    → ListRefused RefusesByError (2 ^ 40) 65536 input e → IsLeft out → WritesOfList about input (Err e) out
+    → ListRefused itself RefusesByError (2 ^ 40) 65536 input e → IsLeft out → WritesOfList about input (Err e) out
 list_refused about input (Error d) out told left =
     let (error, is, call) = told.refused in (
       told.list,
@@ -78,13 +79,13 @@ list_refused about input (Error d) out told left =
             (subst (λ cells. Writes (answer_or_error about cells) (Err (Error (Call error))) out) (sym is)
             (writes_refused error out left)),
       ),
-      subst (λ l. IsReadSoFar l input (Err (Error d))) (sym is) told.stops,
+      subst (λ l. IsReadSoFar itself l input (Err (Error d))) (sym is) told.stops,
     )
 list_refused about input (Fault Memory) out told left = (
   told.list,
   told.held,
   (told.sound (λ never. cc never), left),
-  read_in_part (listed_cells told.list) input told.stops,
+  read_in_part itself (listed_cells told.list) input told.stops,
 )
 list_refused about input (Fault Read) out told left = (told.list, told.held, (told.refused, left), told.faults refl)
 list_refused about input (Fault Write) out told left = absurd told.refused
@@ -92,14 +93,14 @@ list_refused about input (Fault Write) out told left = absurd told.refused
 -- the list is read, and the answer about its cells is written
 pub list_written : (about : List Address → Answer) (cells : List Address) (input : SourceUse)
     (ending : Result (Unit {0}) RunError) (out : SinkUse)
-    → ListRead (2 ^ 40) 65536 input cells → Writes (about cells) ending out
+    → ListRead itself (2 ^ 40) 65536 input cells → Writes (about cells) ending out
     → WritesOfList about input ending out
 list_written about cells input ending out told writes = (
   told.list,
   told.held,
   reading_written _ told.list _ input ending out (inl told.within) told.sound
       (subst (λ read. Writes (answer_or_error about read) ending out) (sym told.is) writes),
-  read_whole _ told.list cells input ending out told.is writes told.whole,
+  read_whole itself _ told.list cells input ending out told.is writes told.whole,
 )
 
 -- ---- a list whose faulty line is reported with its number
@@ -111,30 +112,32 @@ unfolding Writes
 error_written e out left = (refl, (nothing _ _ left.0, left.1))
 
 -- the list is refused
-pub numbered_refused : (about : List Address → Answer) (input : SourceUse) (e : RunError) (out : SinkUse)
-    → ListRefused RefusesByLine (2 ^ 40) 65536 input e → IsLeft out → WritesOfNumberedList about input (Err e) out
-numbered_refused about input (Error d) out told left =
+pub numbered_refused : (says : Says) (about : List Address → Answer) (input : SourceUse) (e : RunError) (out : SinkUse)
+    → ListRefused says RefusesByLine (2 ^ 40) 65536 input e → IsLeft out
+    → WritesOfNumberedList says about input (Err e) out
+numbered_refused says about input (Error d) out told left =
     let (error, is, at) = told.refused in (
       told.list,
       told.held,
       (
         told.within (λ never. cc never) (λ never. cc never),
         told.sound (λ never. cc never),
-        subst (λ c. Writes (about_numbered_list None about told.list) (Err (Error c)) out) (sym at)
-            (subst (λ cells. Writes (answer_or_error_at (faulty_line told.list) about cells)
-            (Err (Error (At (faulty_line told.list) error))) out) (sym is) (error_written
-            (At (faulty_line told.list) error) out left)),
+        subst (λ c. Writes (about_numbered_list says None about told.list) (Err (Error c)) out) (sym at)
+            (subst (λ cells. Writes (answer_or_error_at (faulty_line_as says told.list) about cells)
+            (Err (Error (At (faulty_line_as says told.list) error))) out) (sym is) (error_written
+            (At (faulty_line_as says told.list) error) out left)),
       ),
-      subst (λ l. IsReadSoFar l input (Err (Error d))) (sym is) told.stops,
+      subst (λ l. IsReadSoFar says l input (Err (Error d))) (sym is) told.stops,
     )
-numbered_refused about input (Fault Memory) out told left = (
+numbered_refused says about input (Fault Memory) out told left = (
   told.list,
   told.held,
   (told.sound (λ never. cc never), left),
-  read_in_part (listed_cells told.list) input told.stops,
+  read_in_part says (listed_as says told.list) input told.stops,
 )
-numbered_refused about input (Fault Read) out told left = (told.list, told.held, (told.refused, left), told.faults refl)
-numbered_refused about input (Fault Write) out told left = absurd told.refused
+numbered_refused says about input (Fault Read) out told left =
+    (told.list, told.held, (told.refused, left), told.faults refl)
+numbered_refused says about input (Fault Write) out told left = absurd told.refused
 
 -- there are some bytes left
 pub some_left : (left : Option (List ℕ)) → (bytes : List ℕ) × HasLeft left bytes
@@ -142,8 +145,8 @@ some_left None = ([], tt)
 some_left (Some bytes) = (bytes, refl)
 
 -- where nothing is read, no line is known to be faulty
-unread : (list : List ℕ) → StopsAtFault 65536 list list
-unread list =
+unread : (says : Says) (list : List ℕ) → StopsAtFault says 65536 list list
+unread says list =
     record {
       before = [];
       last = [];
@@ -154,27 +157,29 @@ unread list =
     }
 
 -- there is no memory before any of the list is read
-numbered_unread : (about : List Address → Answer) (input : SourceUse) (out : SinkUse) → NoReadFails input
-    → input.left_after ≡ input.left → IsLeft out → WritesOfNumberedList about input (Err (Fault Memory)) out
-numbered_unread about input out sound alone left =
+numbered_unread : (says : Says) (about : List Address → Answer) (input : SourceUse) (out : SinkUse)
+    → NoReadFails input → input.left_after ≡ input.left → IsLeft out
+    → WritesOfNumberedList says about input (Err (Fault Memory)) out
+numbered_unread says about input out sound alone left =
     let (bytes, held) = some_left input.left in (
       bytes,
       held,
       (sound, left),
-      read_in_part (listed_cells bytes) input (λ list known. (list, alone ∙ known, unread list)),
+      read_in_part says (listed_as says bytes) input (λ list known. (list, alone ∙ known, unread says list)),
     )
 
 -- the list is read, and the answer about its cells is written
-pub numbered_written : (about : List Address → Answer) (cells : List Address) (input : SourceUse)
+pub numbered_written : (says : Says) (about : List Address → Answer) (cells : List Address) (input : SourceUse)
     (ending : Result (Unit {0}) RunError) (out : SinkUse)
-    → ListRead (2 ^ 40) 65536 input cells → Writes (about cells) ending out
-    → WritesOfNumberedList about input ending out
-numbered_written about cells input ending out told writes = (
+    → ListRead says (2 ^ 40) 65536 input cells → Writes (about cells) ending out
+    → WritesOfNumberedList says about input ending out
+numbered_written says about cells input ending out told writes = (
   told.list,
   told.held,
   reading_written _ told.list _ input ending out (inl told.within) told.sound
-      (subst (λ read. Writes (answer_or_error_at (faulty_line told.list) about read) ending out) (sym told.is) writes),
-  read_whole _ told.list cells input ending out told.is writes told.whole,
+      (subst (λ read. Writes (answer_or_error_at (faulty_line_as says told.list) about read) ending out) (sym told.is)
+      writes),
+  read_whole says _ told.list cells input ending out told.is writes told.whole,
 )
 
 -- there is no memory before any of the rows is read
@@ -204,8 +209,8 @@ rows_unread form input sound alone =
 -- there is no memory before any of a list is read, bare or of rows
 pub list_unread : (form : Option Form) (about : List Address → Answer) (input : SourceUse) (out : SinkUse)
     → NoReadFails input → input.left_after ≡ input.left → IsLeft out
-    → EndsNumberedList form about input (Err (Fault Memory)) out
-list_unread None about input out sound alone left = numbered_unread about input out sound alone left
+    → EndsNumberedList itself form about input (Err (Fault Memory)) out
+list_unread None about input out sound alone left = numbered_unread itself about input out sound alone left
 list_unread (Some form) about input out sound alone left = inr (rows_unread form input sound alone, left)
 
 -- there is no memory before any of the rows is read of which a second field is read too

@@ -6,6 +6,7 @@ use Rattle.std.specs.Io.KnownBytes.{Consumes}
 use Rattle.h3_index.specs.Cell.{Address}
 use Rattle.h3_index.specs.declared.error.H3Error.{H3Error}
 use Rattle.h3_streams.specs.Stream.{HasLeft}
+use Rattle.h3_lines.specs.List.{itself}
 use Rattle.h3_lines.specs.Numbered.{faulty_line}
 use Rattle.h3_lines.specs.ListRead.{ListRefused, RefusesByLine}
 use Rattle.h3_lines.specs.Reads.{IsReadToEnd, SourceUse}
@@ -43,7 +44,7 @@ table_whole form cells file all list known =
 
 -- they have no error as a whole
 pub file_given : (kind : CellFile) (form : Option Form) (file : SourceUse) (listed : List Address)
-    → GivesCells form file listed → file_error kind listed ≡ None
+    → GivesCells itself form file listed → file_error kind listed ≡ None
     → (bytes : List ℕ) × HasLeft file.left bytes × GivesFile kind form bytes file listed
 file_given kind None file listed told none = (
   told.list,
@@ -68,7 +69,7 @@ file_given kind (Some form) file listed (sound, all) none = (
 
 -- they have one
 pub file_judged : (kind : CellFile) (form : Option Form) (file : SourceUse) (listed : List Address) (e : H3Error)
-    → GivesCells form file listed → file_error kind listed ≡ Some e
+    → GivesCells itself form file listed → file_error kind listed ≡ Some e
     → (bytes : List ℕ) × HasLeft file.left bytes × RefusesFile kind form bytes file (Err (Error (File kind e)))
 file_judged kind None file listed e told is = (
   told.list,
@@ -93,7 +94,7 @@ file_judged kind (Some form) file listed e (sound, all) is = (
 -- ---- one with a faulty line or row, or that is not read to its end
 
 bare_refused : (kind : CellFile) (file : SourceUse) (e : RunError)
-    (told : ListRefused RefusesByLine (2 ^ 40) 65536 file e)
+    (told : ListRefused itself RefusesByLine (2 ^ 40) 65536 file e)
     → RefusesFile kind None told.list file (Err (in_file kind e))
 bare_refused kind file (Error d) told =
     let (error, is, at) = told.refused in
@@ -138,7 +139,7 @@ rows_refused kind form file (Fault Read) (stop, fails) =
 rows_refused kind form file (Fault Write) never = absurd never
 
 pub file_refused : (kind : CellFile) (form : Option Form) (file : SourceUse) (e : RunError)
-    → RefusesNumbered form file e
+    → RefusesNumbered itself form file e
     → (bytes : List ℕ) × HasLeft file.left bytes × RefusesFile kind form bytes file (Err (in_file kind e))
 file_refused kind None file e told = (told.list, told.held, bare_refused kind file e told)
 file_refused kind (Some form) file e told = rows_refused kind form file e told

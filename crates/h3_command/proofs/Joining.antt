@@ -1,5 +1,5 @@
 -- The join of cells with a table of zones with names.
-use Rattle.std.proofs.Common.{◌≡◌, ◌≢◌, ℕ, zero, suc, ◌+◌, ◌<◌, ◌↔◌, inl, inr, AllPairs, Bool, true, false, cond, if◌then◌else◌, List, [], ◌∷◌, All, Contains, length, get_or, map, Option, None, Some, unwrap_or, bytes_eq, sym, ap, ◌∙◌, refl, subst, arith}
+use Rattle.std.proofs.Common.{◌≡◌, ◌≢◌, ℕ, zero, suc, ◌+◌, ◌<◌, inl, inr, AllPairs, Bool, true, false, cond, if◌then◌else◌, List, [], ◌∷◌, Contains, length, get_or, map, None, Some, unwrap_or, bytes_eq, sym, ap, ◌∙◌, refl, subst, arith}
 use Rattle.std.proofs.lemmas.List.{get_or-map, length-map}
 use Rattle.std.proofs.lemmas.List.Elements.{All-contains, Contains-get_or}
 use Rattle.std.proofs.lemmas.Option.{same_Some}
@@ -7,10 +7,9 @@ use Rattle.std.specs.Cmp.Lexicographic.{bytes_decides}
 use Rattle.std.specs.List.{position_from}
 use Rattle.h3_index.specs.Cell.{Address, resolution}
 use Rattle.h3_index.specs.Descendants.{IsAncestor}
-use Rattle.h3_index.specs.declared.error.H3Error.{H3Error}
 use Rattle.h3_index.specs.declared.error.H3Error.TheVariants.{DuplicateInput}
 use Rattle.h3_regions.specs.AreaLaws.{AreasAreListed, ClashesAreFound, OneAreaAtMost}
-use Rattle.h3_regions.specs.Areas.{AreApart, AreAreasOf, IsBefore, LiesIn, areas_of, coarsest}
+use Rattle.h3_regions.specs.Areas.{AreApart, IsBefore, LiesIn, areas_of, coarsest}
 use Rattle.h3_regions.specs.Refusals.{areas_refusal, has_clash}
 use Rattle.h3_rows.specs.Areas.{CellsHaveAreas, HasArea, NamedCell, NamesStandOnce, NumbersAreOfNames, area_cells, area_names, cells_among, in_area, name_text, place_of}
 use Rattle.h3_rows.specs.Named.{Entry}

@@ -1,4 +1,9 @@
 pub mod AddedUp
+pub mod AncestorLaws
+pub mod AncestorRows
+pub mod AncestorRuns
+pub mod AncestorSums
+pub mod Ancestors
 pub mod AreasAnswered
 pub mod AreasCounted
 pub mod AreasRead

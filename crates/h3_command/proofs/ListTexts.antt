@@ -1,5 +1,5 @@
 -- The lists of values, one after another.
-use Rattle.std.proofs.Common.{◌≡◌, ℕ, zero, suc, ◌+◌, ◌<◌, ◌≤◌, List, [], ◌∷◌, ◌++◌, get_or, length, map, take, drop, Option, Result, Ok, Err, inl, inr, sym, ap, ◌∙◌, refl, subst, arith, append-nil, append_assoc, take-append-drop, Bool}
+use Rattle.std.proofs.Common.{◌≡◌, ℕ, zero, suc, ◌+◌, ◌<◌, ◌≤◌, List, [], ◌∷◌, ◌++◌, get_or, take, drop, Option, Result, Ok, Err, inl, inr, sym, ap, ◌∙◌, refl, subst, arith, append-nil, append_assoc, take-append-drop, Bool}
 use Rattle.std.proofs.lemmas.Bool.{cases_eq}
 use Rattle.std.proofs.lemmas.Grind.{flat_map-append}
 use Rattle.std.proofs.lemmas.List.{map-id}
@@ -13,7 +13,7 @@ use Rattle.h3_lines.specs.Write.{sink_use}
 use Rattle.h3_lines.specs.declared.run_error.AnswerError.TheVariants.{AtRow}
 use Rattle.h3_lines.specs.declared.run_error.RowError.TheVariants.{Call}
 use Rattle.h3_command.specs.By.{lists_of, lists_then, value_lines}
-use Rattle.h3_command.specs.ByValue.{AreMade, IsFirstError, part_of}
+use Rattle.h3_command.specs.ByValue.{IsFirstError}
 use Rattle.h3_regions.specs.Areas.{cells_of}
 
 -- ---- texts of numbers, one after another

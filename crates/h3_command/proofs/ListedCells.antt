@@ -2,7 +2,7 @@
 use Rattle.std.proofs.Common.{◌≡◌, ℕ, List, [], ◌++◌, Option, None, Some, Result, Ok, Err, IfOk, sym, ap, ◌∙◌, subst, inl, inr}
 use Rattle.h3_index.specs.Cell.{Address}
 use Rattle.h3_lines.specs.Answer.{Answer}
-use Rattle.h3_lines.specs.List.{listed_cells}
+use Rattle.h3_lines.specs.List.{Says, itself, listed_as}
 use Rattle.h3_lines.specs.Reads.{IsReadToEnd, NoReadFails, SourceUse}
 use Rattle.h3_lines.specs.Write.{IsLeft, SinkUse}
 use Rattle.h3_lines.specs.declared.run_error.Fault.TheVariants.{Memory}
@@ -35,21 +35,22 @@ items_given items none gives (Err e) empty told = tt
 -- ---- how the command ends
 
 -- a list that was read to its end is read so far where there is no memory for the answer
-read_before : (cells : List Address) (list : List ℕ) (input : SourceUse) → listed_cells list ≡ Ok cells
-    → IsReadToEnd input → IsReadSoFar (listed_cells list) input (Err (Fault Memory))
-read_before cells list input is whole = subst (λ l. IsReadSoFar l input (Err (Fault Memory))) (sym is) (inl whole)
+read_before : (says : Says) (cells : List Address) (list : List ℕ) (input : SourceUse) → listed_as says list ≡ Ok cells
+    → IsReadToEnd input → IsReadSoFar says (listed_as says list) input (Err (Fault Memory))
+read_before says cells list input is whole =
+    subst (λ l. IsReadSoFar says l input (Err (Fault Memory))) (sym is) (inl whole)
 
 -- the list is read, and the answer about its cells is written, or there is no memory for it
 pub list_ends : (form : Option Form) (about : List Address → Answer) (cells : List Address) (input : SourceUse)
     (ending : Result (Unit {0}) RunError) (out : SinkUse)
-    → GivesCells form input cells → WritesUnlessMemory (about cells) ending out → EndsList form about input ending out
+    → GivesCells itself form input cells → WritesUnlessMemory (about cells) ending out → EndsList form about input ending out
 list_ends None about cells input ending out given (inl writes) = list_written about cells input ending out given writes
 list_ends None about cells input ending out given (inr (is, left)) =
     subst (λ e. EndsList None about input e out) (sym is) (
       given.list,
       given.held,
       (given.sound, left),
-      read_before cells given.list input given.is given.whole,
+      read_before itself cells given.list input given.is given.whole,
     )
 list_ends (Some form) about cells input ending out given writes = inl (cells, given, writes)
 
@@ -61,23 +62,23 @@ list_unanswered None about input e out refused left = list_refused about input e
 list_unanswered (Some form) about input e out refused left = inr (refused, left)
 
 -- the same two, where the error of a faulty line is reported with its number
-pub numbered_ends : (form : Option Form) (about : List Address → Answer) (cells : List Address) (input : SourceUse)
+pub numbered_ends : (says : Says) (form : Option Form) (about : List Address → Answer) (cells : List Address) (input : SourceUse)
     (ending : Result (Unit {0}) RunError) (out : SinkUse)
-    → GivesCells form input cells → WritesUnlessMemory (about cells) ending out
-    → EndsNumberedList form about input ending out
-numbered_ends None about cells input ending out given (inl writes) =
-    numbered_written about cells input ending out given writes
-numbered_ends None about cells input ending out given (inr (is, left)) =
-    subst (λ e. EndsNumberedList None about input e out) (sym is) (
+    → GivesCells says form input cells → WritesUnlessMemory (about cells) ending out
+    → EndsNumberedList says form about input ending out
+numbered_ends says None about cells input ending out given (inl writes) =
+    numbered_written says about cells input ending out given writes
+numbered_ends says None about cells input ending out given (inr (is, left)) =
+    subst (λ e. EndsNumberedList says None about input e out) (sym is) (
       given.list,
       given.held,
       (given.sound, left),
-      read_before cells given.list input given.is given.whole,
+      read_before says cells given.list input given.is given.whole,
     )
-numbered_ends (Some form) about cells input ending out given writes = inl (cells, given, writes)
+numbered_ends says (Some form) about cells input ending out given writes = inl (cells, given, writes)
 
-pub numbered_unanswered : (form : Option Form) (about : List Address → Answer) (input : SourceUse) (e : RunError)
+pub numbered_unanswered : (says : Says) (form : Option Form) (about : List Address → Answer) (input : SourceUse) (e : RunError)
     (out : SinkUse)
-    → RefusesNumbered form input e → IsLeft out → EndsNumberedList form about input (Err e) out
-numbered_unanswered None about input e out refused left = numbered_refused about input e out refused left
-numbered_unanswered (Some form) about input e out refused left = inr (refused, left)
+    → RefusesNumbered says form input e → IsLeft out → EndsNumberedList says form about input (Err e) out
+numbered_unanswered says None about input e out refused left = numbered_refused says about input e out refused left
+numbered_unanswered says (Some form) about input e out refused left = inr (refused, left)

@@ -1,14 +1,12 @@
 -- Lists that are made in the place of their cells.
-use Rattle.std.proofs.Common.{◌≡◌, ◌≢◌, ℕ, ◌+◌, ◌-◌, ◌<◌, ◌≤◌, List, [], ◌∷◌, ◌++◌, get_or, length, set, take, drop, Result, Ok, Err, inl, inr, sym, ap, ◌∙◌, refl, subst, arith, length-append}
-use Rattle.std.proofs.lemmas.Bool.{cases_eq, cases_order}
-use Rattle.std.proofs.lemmas.List.{drop_at, drop-take, get_or-set_other, get_or-set_same, length-drop, length-set, length-take-le, take-append-le, take-take}
+use Rattle.std.proofs.Common.{◌≡◌, ◌≢◌, ℕ, ◌+◌, ◌-◌, ◌<◌, ◌≤◌, List, ◌++◌, get_or, length, set, take, drop, Result, Ok, inl, inr, sym, ap, ◌∙◌, refl, subst, arith, length-append}
+use Rattle.std.proofs.lemmas.Bool.{cases_eq}
+use Rattle.std.proofs.lemmas.List.{drop_at, drop-take, get_or-set_other, get_or-set_same, length-drop, length-set, length-take-le, take-append-le}
 use Rattle.std.proofs.lemmas.Slice.{drop-put_mid, take-put_mid_below}
-use Rattle.std.specs.List.{between}
 use borrow.Rule.Slice.PartMut.{put_mid}
 use Rattle.h3_index.specs.Cell.{Address}
 use Rattle.h3_index.specs.declared.error.H3Error.{H3Error}
-use Rattle.h3_command.specs.ByValue.{AreApart, AreByValue, AreMade, IsFirstError, part_of}
-use Rattle.h3_regions.specs.Areas.{cells_of}
+use Rattle.h3_command.specs.ByValue.{AreApart, part_of}
 
 -- the lists of the first k parts are made
 pub record IsMaking (list_of : List Address → Result (List Address) H3Error) (listed : List Address → List Address)

@@ -1,5 +1,5 @@
 -- What stands in the new column of rows.
-use Rattle.std.proofs.Common.{◌≡◌, ℕ, zero, suc, ◌/◌, ◌%◌, ◌<◌, ◌==◌, nat_le, Bool, true, false, not, ◌&&◌, ◌||◌, List, [], ◌∷◌, ◌++◌, All, map, codes, decimal, get_or, string_bytes, unwrap_or, eq-eqb, subst, Option, None, Some, Result, Ok, Err, if◌then◌else◌, sym, ap, ◌∙◌, refl, append_assoc, append-nil, arith, inl, inr}
+use Rattle.std.proofs.Common.{ℤ, ◌≡◌, ℕ, zero, suc, ◌/◌, ◌%◌, ◌<◌, ◌==◌, nat_le, Bool, true, false, not, ◌&&◌, ◌||◌, List, [], ◌∷◌, ◌++◌, All, map, codes, decimal, get_or, string_bytes, unwrap_or, eq-eqb, subst, Option, None, Some, Result, Ok, Err, if◌then◌else◌, sym, ap, ◌∙◌, refl, append_assoc, append-nil, arith, inl, inr}
 use Rattle.std.proofs.lemmas.Bool.Decides.{nat_tests}
 use Rattle.std.proofs.lemmas.List.Elements.{All-cons, All-head, All-map, All-nil, All-tail}
 use Rattle.std.proofs.lemmas.List.Folds.{flat_map-map, list_all-append, list_all-map}
@@ -23,6 +23,7 @@ use Rattle.h3_functions.specs.Walks.{grid_disk_distances_unsafe, grid_disk_unsaf
 use Rattle.h3_set.specs.Compacted.{compacted}
 use Rattle.h3_functions.specs.declared.outcome.Outcome.{Outcome}
 use Rattle.h3_functions.specs.declared.outcome.Outcome.TheVariants.{Cell, Count, Edges, Number, Truth}
+use Rattle.h3_lines.specs.List.{itself}
 use Rattle.h3_lines.specs.Answer.{Answer, answer_or_error, cell_line, cell_lines, edge_line, edge_lines, number_line, printed, ring_line, ring_line_by, truth_line, walked, written, zone_line, zone_text}
 use Rattle.h3_lines.specs.RunError.{row_error_name}
 use Rattle.h3_lines.specs.declared.run_error.RowError.{RowError}
@@ -43,7 +44,7 @@ use Rattle.h3_requests.specs.declared.rows.AreaOptions.{AreaOptions}
 use Rattle.h3_requests.specs.declared.rows.CellField.{CellField}
 use Rattle.h3_requests.specs.declared.rows.Tables.{Tables}
 use Rattle.h3_lines.specs.declared.run_error.AnswerError.{AnswerError}
-use Rattle.h3_command.specs.Answer.{Request, answer_for, area_counts_request, by_region_request, by_request, counts_request, shown, summed, with_table, zone_counts_request, zones_request}
+use Rattle.h3_command.specs.Answer.{Request, answer_for, area_counts_request, by_region_request, by_request, counts_request, parents_request, shown, summed, with_table, zone_counts_request, zones_request}
 use Rattle.h3_command.specs.Answer.Request.{of_list, of_numbered_list}
 use Rattle.h3_command.specs.Areas.{area_answer, areas_of_file, entries_of_table, judged_areas, name_lines, names_or, overlap_error, unless_overlapping}
 use Rattle.h3_command.specs.Files.{cell_to_zone, is_covered_cell}
@@ -532,6 +533,12 @@ no_lines_counted : (Is : Answer → Type 0) (tables : Tables) (areas : Option Ar
 no_lines_counted Is tables None = no_lines_of_zones Is tables (summed tables.list tables.sum)
 no_lines_counted Is tables (Some areas) = no_lines_summed Is areas tables.list (summed tables.list tables.sum)
 
+-- nor are the counts and sums by ancestors
+no_lines_of_parents : (Is : Answer → Type 0) (res : ℤ) (list : Option RowOptions)
+    (sum : Option (RowOptions × CellField)) → AnswersBy Is (parents_request res list sum)
+no_lines_of_parents Is res list None = tt
+no_lines_of_parents Is res list (Some sum) = tt
+
 -- nor are lists by the values of a field
 no_lines_by : (Is : Answer → Type 0) (by : Option CellField) (list : Option RowOptions)
     (function : List Address → Result (List Address) H3Error) (whole : Request)
@@ -557,7 +564,7 @@ answers_are_words names tables (command.UncompactCells res) =
     (of_list (list_form tables.list) (λ cells. printed cell_lines (uncompact_cells res cells))) tt
 answers_are_words names tables command.UniteCells =
     no_lines_by (AreAnswerLines IsWord) tables.by tables.list (λ cells. Ok (compacted cells))
-    (of_numbered_list (list_form tables.list) (λ cells. written (cell_lines (compacted cells)))) tt
+    (of_numbered_list itself (list_form tables.list) (λ cells. written (cell_lines (compacted cells)))) tt
 answers_are_words names tables command.IntersectCells =
     no_lines_by_region (AreAnswerLines IsWord) tables.by tables.list (file_form tables)
     (λ region cells. intersection cells region)
@@ -567,6 +574,8 @@ answers_are_words names tables command.SubtractCells =
 answers_are_words names tables command.AreCoveredCells =
     λ cells index. printed_lines IsWord truth_line (is_covered_cell (compacted cells) index) truth_lines
 answers_are_words names tables command.CountCellsInZones = no_lines_counted (AreAnswerLines IsWord) tables tables.areas
+answers_are_words names tables (command.CountCellsInParents res) =
+    no_lines_of_parents (AreAnswerLines IsWord) res tables.list (summed tables.list tables.sum)
 answers_are_words names tables command.CellsToZones = zone_lines_of names tables tables.areas
 answers_are_words names tables (command.GridDiskUnsafe cell k) =
     one_query (AreAnswerLines IsWord) (λ c link. answer_or_error (walked cell_line) (grid_disk_unsafe link c k))

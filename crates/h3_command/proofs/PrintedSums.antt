@@ -1,6 +1,6 @@
 -- What is printed of the counts and sums of areas adds up.
-use Rattle.std.proofs.Common.{◌≡◌, ℕ, ◌<◌, Bool, List, [], ◌∷◌, ◌++◌, All, Contains, length, map, sum, None, ap, sym, ◌∙◌, refl}
-use Rattle.std.specs.Prelude.{ℤ, pos, ◌+ℤ◌}
+use Rattle.std.proofs.Common.{◌≡◌, ℕ, ◌<◌, List, [], ◌∷◌, ◌++◌, Contains, length, map, sum, ap, ◌∙◌, refl}
+use Rattle.std.specs.Prelude.{◌+ℤ◌}
 use Rattle.std.specs.List.{range_with_len}
 use Rattle.std.proofs.Math.IntN.{+ℤ_idr}
 use Rattle.std.proofs.lemmas.List.{length-map}
@@ -12,7 +12,6 @@ use Rattle.h3_numbers.specs.Sum.{total}
 use Rattle.h3_regions.specs.AreaCounting.{count_in_area, count_in_none}
 use Rattle.h3_regions.specs.AreaLaws.{AreaCountsAddUp, AreasAreTested, ClashesAreFound, OneAreaAtMost}
 use Rattle.h3_rows.specs.Areas.{NumbersAreOfNames, area_cells, area_names}
-use Rattle.h3_rows.specs.Named.{Entry}
 use Rattle.h3_command.specs.AreaSums.{Amount, cells_in, sum_in_area, sum_in_none}
 use Rattle.h3_command.specs.SumAnswers.{AreaSumsPrintedAddUp, area_sum, none_sum}
 use Rattle.h3_command.specs.SumTables.{SumRow}

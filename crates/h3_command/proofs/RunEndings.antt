@@ -6,6 +6,7 @@ use Rattle.h3_streams.specs.Stream.{HasLeft}
 use Rattle.h3_table.specs.Fields.{records_of}
 use Rattle.h3_table.specs.Links.{Links}
 use Rattle.h3_table.specs.Table.{links_of, table_fault}
+use Rattle.h3_lines.specs.List.{Says, itself}
 use Rattle.h3_lines.specs.Answer.{Answer}
 use Rattle.h3_lines.specs.EachLine.{EndsEach, list_answer}
 use Rattle.h3_lines.specs.Reads.{SourceUse}
@@ -27,7 +28,7 @@ use Rattle.h3_rows.specs.RowsAnswer.{Form, begun_answer, rows_answer}
 use Rattle.h3_rows.specs.RowsAnswer.{list_answer as row_answers}
 use Rattle.h3_command.specs.Rows.{listed_answer}
 use Rattle.h3_command.proofs.Written.{nothing}
-use Rattle.h3_command.proofs.Endings.{some_left, table_read}
+use Rattle.h3_command.proofs.Endings.{some_left}
 
 -- ---- a run
 
@@ -187,15 +188,16 @@ gives_list None about ending status s (list, held, writes, so_far) reports =
 gives_list (Some form) about ending status s ends reports = gives_cells form about ending status s ends reports
 
 -- the same, where the error of a faulty line is reported with its number
-gives_numbered_list : (form : Option Form) (about : List Address → Answer) (ending : Result (Unit {0}) RunError)
-    (status : ℕ) (s : Streams)
-    → EndsNumberedList form about s.input ending s.out → Reports ending status s.err
+gives_numbered_list : (says : Says) (form : Option Form) (about : List Address → Answer)
+    (ending : Result (Unit {0}) RunError) (status : ℕ) (s : Streams)
+    → EndsNumberedList says form about s.input ending s.out → Reports ending status s.err
     → (list : List ℕ) × HasLeft s.input.left list
     × ((ReadFails s.input list → ⊥) → s.out.has_failed ≡ false
-    → Gives (about_numbered_list form about list) status s ⊎ RunsOutOfMemory status s)
-gives_numbered_list None about ending status s (list, held, writes, so_far) reports =
+    → Gives (about_numbered_list says form about list) status s ⊎ RunsOutOfMemory status s)
+gives_numbered_list says None about ending status s (list, held, writes, so_far) reports =
     (list, held, λ r w. gives_reading _ list _ s.input ending status s writes r w reports)
-gives_numbered_list (Some form) about ending status s ends reports = gives_cells form about ending status s ends reports
+gives_numbered_list says (Some form) about ending status s ends reports =
+    gives_cells form about ending status s ends reports
 
 -- the entries of rows are refused, or not read to their end
 gives_refused_entries : (table : NamedTable) (about : List Entry → Answer) (ending : Result (Unit {0}) RunError)
@@ -282,18 +284,19 @@ list_answers f rows form about ending status s (bytes, held, inr (refuses, alone
       file_is = held;
       given =
           λ none. with_memory true refl (gives_refused f rows
-          (λ cells. about_numbered_list form (about cells) list) bytes ending status s refuses left
+          (λ cells. about_numbered_list itself form (about cells) list) bytes ending status s refuses left
           (none.table_read refl) reports);
     }
 list_answers f rows form about ending status s (bytes, held, inl (cells, gives, ends)) reports =
-    let (list, known, given) = gives_numbered_list form (about cells) ending status s ends reports in
+    let (list, known, given) = gives_numbered_list itself form (about cells) ending status s ends reports in
     record {
       list = list;
       file = bytes;
       list_is = known;
       file_is = held;
       given =
-          λ none. subst (λ c. Gives (unless_refused (λ cells. about_numbered_list form (about cells) list) c) status s
+          λ none. subst (λ c. Gives
+          (unless_refused (λ cells. about_numbered_list itself form (about cells) list) c) status s
           ⊎ (IsTrue true × RunsOutOfMemory status s)) (sym gives.is)
           (with_memory true refl (given (none.list_read (read_after f rows bytes cells gives.is)) none.answer_written));
     }
@@ -448,11 +451,11 @@ area_list_answers overlapping table form about ending status s (bytes, held, inr
       file_is = held;
       given =
           λ none. with_memory true refl (gives_refused_areas overlapping table
-          (λ entries. about_numbered_list form (about entries) list) bytes ending status s refuses left
+          (λ entries. about_numbered_list itself form (about entries) list) bytes ending status s refuses left
           (none.table_read refl) reports);
     }
 area_list_answers overlapping table form about ending status s (bytes, held, inl (entries, gives, ends)) reports =
-    let (list, known, given) = gives_numbered_list form (about entries) ending status s ends reports in
+    let (list, known, given) = gives_numbered_list itself form (about entries) ending status s ends reports in
     record {
       list = list;
       file = bytes;
@@ -460,7 +463,7 @@ area_list_answers overlapping table form about ending status s (bytes, held, inl
       file_is = held;
       given =
           λ none. subst (λ c. Gives
-          (unless_refused (λ entries. about_numbered_list form (about entries) list) c) status s ⊎
+          (unless_refused (λ entries. about_numbered_list itself form (about entries) list) c) status s ⊎
           (IsTrue true × RunsOutOfMemory status s)) (sym gives.is)
           (with_memory true refl
           (given (none.list_read (read_after_areas overlapping table bytes entries gives.is)) none.answer_written));
@@ -551,8 +554,8 @@ answers (of_list form about) ending status s ends reports =
       given =
           λ none. with_memory true refl (given (none.list_read refl) none.answer_written);
     }
-answers (of_numbered_list form about) ending status s ends reports =
-    let (list, held, given) = gives_numbered_list form about ending status s ends reports in
+answers (of_numbered_list says form about) ending status s ends reports =
+    let (list, held, given) = gives_numbered_list says form about ending status s ends reports in
     let (file, kept) = some_left s.table.left in
     record {
       list = list;

@@ -1,22 +1,22 @@
 -- Rows that are added up by areas, and the answer about them.
-use Rattle.std.proofs.Common.{◌≡◌, ◌<◌, ◌≤◌, ◌+◌, ◌∙◌, ℕ, ◌^◌, Bool, true, false, List, [], ◌∷◌, ◌++◌, All, Contains, Option, None, Some, Result, Ok, Err, ap, arith, get_or, length, map, not, option_map, refl, replicate, string_bytes, codes, subst, sym, unwrap_or, if◌then◌else◌, inl, inr}
+use Rattle.std.proofs.Common.{◌≡◌, ◌<◌, ◌∙◌, ℕ, Bool, true, false, List, [], ◌∷◌, ◌++◌, All, Option, None, Some, Result, ap, get_or, length, map, not, option_map, refl, string_bytes, codes, subst, sym, unwrap_or, inl}
 use Rattle.std.proofs.Math.Path.{fun_ext}
 use Rattle.std.specs.Prelude.{IsPermutation, ℤ, pos}
 use Rattle.std.specs.List.{count_by, range_with_len}
 use Rattle.std.proofs.lemmas.List.{get_or-map}
 use Rattle.h3_index.specs.Cell.{Address}
-use Rattle.h3_lines.specs.Answer.{Answer, written}
+use Rattle.h3_lines.specs.Answer.{written}
 use Rattle.h3_lines.specs.Reads.{SourceUse}
 use Rattle.h3_lines.specs.Write.{SinkUse}
 use Rattle.h3_lines.specs.declared.run_error.RunError.{RunError}
 use Rattle.h3_numbers.specs.Sum.{sum_count, sum_units}
 use Rattle.h3_numbers.specs.declared.sum.Sum.{Sum}
-use Rattle.h3_regions.specs.AreaLaws.{AlikeAreas, AreasAreTested, AreasInAnyOrder}
-use Rattle.h3_regions.specs.Areas.{AreAlike, LiesIn, lies_in}
+use Rattle.h3_regions.specs.AreaLaws.{AreasAreTested, AreasInAnyOrder}
+use Rattle.h3_regions.specs.Areas.{AreAlike, lies_in}
 use Rattle.h3_regions.specs.AreaCounting.{count_in_area, count_in_none}
 use Rattle.h3_requests.specs.declared.rows.AreaOptions.{AreaOptions}
 use Rattle.h3_requests.specs.declared.rows.RowOptions.{RowOptions}
-use Rattle.h3_rows.specs.Areas.{area_cells, area_names, names_in, title_of}
+use Rattle.h3_rows.specs.Areas.{area_cells, area_names, names_in}
 use Rattle.h3_rows.specs.Named.{Entry, Table}
 use Rattle.h3_rows.specs.declared.areas.AreaTable.{AreaTable}
 use Rattle.h3_set.specs.Coverage.{is_covered}
@@ -25,10 +25,10 @@ use Rattle.h3_command.specs.AreaSums.{Amount, cells_in, is_outside, sum_where}
 use Rattle.h3_command.specs.AreaTable.{EndsJudged, HoldsAreas}
 use Rattle.h3_command.specs.Areas.{overlap_error}
 use Rattle.h3_command.specs.Run.{EndsEntries}
-use Rattle.h3_command.specs.SumAnswers.{amounts_among, area_sum, area_sums, area_sums_answer, none_sum, sum_titles, title_or_sum}
+use Rattle.h3_command.specs.SumAnswers.{amounts_among, area_sum, area_sums, area_sums_answer, none_sum, sum_titles}
 use Rattle.h3_command.specs.SumRows.{named_row, named_rows, row_of, value_of, values_of}
-use Rattle.h3_command.specs.SumTables.{SumRow, sums_table}
-use Rattle.h3_command.specs.SumTally.{AreAreaSums, IsSumWhere}
+use Rattle.h3_command.specs.SumTables.{sums_table}
+use Rattle.h3_command.specs.SumTally.{AreAreaSums}
 use Rattle.h3_command.proofs.AreasCounted.{alike_below}
 use Rattle.h3_command.proofs.Summing.{covers_in, lies_in_some}
 

@@ -1,5 +1,5 @@
 -- Rows of values, and errors in place of lists.
-use Rattle.std.proofs.Common.{◌≡◌, List, [], Result, Ok, Err, IfOk, OnErr, refl}
+use Rattle.std.proofs.Common.{[], Result, Ok, Err, IfOk, OnErr, refl}
 use Rattle.h3_lines.specs.Write.{IsLeft, SinkUse, Writes}
 use Rattle.h3_lines.specs.declared.run_error.AnswerError.{AnswerError}
 use Rattle.h3_lines.specs.declared.run_error.RunError.TheVariants.{Error}

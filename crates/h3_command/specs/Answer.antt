@@ -1,5 +1,5 @@
 -- The request of a command, and the answer to it.
-use Rattle.std.specs.Prelude.{ℕ, Bool, true, false, not, refl, List, [], is_some, Option, None, Some, Result, Ok, Err, codes, string_bytes}
+use Rattle.std.specs.Prelude.{ℕ, ℤ, Bool, true, false, not, refl, List, [], is_some, Option, None, Some, Result, Ok, Err, codes, string_bytes}
 use Rattle.std.specs.Result.{is_ok}
 use Rattle.h3_index.specs.Cell.{Address}
 use Rattle.h3_index.specs.declared.error.H3Error.{H3Error}
@@ -8,8 +8,8 @@ use Rattle.h3_table.specs.Links.{Links}
 use Rattle.h3_table.specs.Table.{links_of, table_fault}
 use Rattle.h3_directions.specs.declared.error.TableError.{TableError}
 use Rattle.h3_lines.specs.Answer.{Answer, answer_or_error, cell_line, cell_lines, edge_line, edge_lines, number_line, printed, refused, ring_line, table_refused, truth_line, walked, written}
-use Rattle.h3_lines.specs.List.{listed_cells}
-use Rattle.h3_lines.specs.Numbered.{faulty_line}
+use Rattle.h3_lines.specs.List.{Says, itself, listed_as, listed_cells}
+use Rattle.h3_lines.specs.Numbered.{faulty_line_as}
 use Rattle.h3_lines.specs.declared.run_error.AnswerError.TheVariants.{At}
 use Rattle.h3_lines.specs.declared.run_error.CellFile.{CellFile}
 use Rattle.h3_lines.specs.declared.run_error.CellFile.TheVariants.{Region, Zones}
@@ -30,6 +30,8 @@ use Rattle.h3_command.specs.By.{by_answer}
 use Rattle.h3_command.specs.Files.{counts_answer, covered_answer, file_cells, unless_refused, zone_answer}
 use Rattle.h3_command.specs.Required.{cell_given, edge_given, index_given}
 use Rattle.h3_command.specs.LongAnswers.{between_parts, children_for, disk_distances_for, disk_for, ring_for}
+use Rattle.h3_command.specs.ParentSums.{parent_sums_answer}
+use Rattle.h3_command.specs.Parents.{parent_at, parent_counts_answer}
 use Rattle.h3_command.specs.TableLists.{destination_answer}
 use Rattle.h3_requests.specs.declared.command.IndexFunction.{IndexFunction}
 use Rattle.h3_requests.specs.declared.command.IndexFunction.TheVariants as each
@@ -41,15 +43,16 @@ use Rattle.h3_requests.specs.declared.rows.RowOptions.{RowOptions}
 use Rattle.h3_requests.specs.declared.rows.Tables.{Tables}
 use Rattle.h3_lines.specs.Pieces.{rows_of}
 use Rattle.h3_rows.specs.Cells.{cells_of}
-use Rattle.h3_rows.specs.Named.{Entry, Table, named_cells, names_table, table_of}
+use Rattle.h3_rows.specs.Named.{Entry, Table, named_cells, names_table, table_as, table_of}
 use Rattle.h3_rows.specs.RowsAnswer.{Form}
 use Rattle.h3_rows.specs.declared.table.FieldContent.TheVariants as content
 use Rattle.h3_command.specs.SumAnswers.{area_sums_answer}
-use Rattle.h3_command.specs.Rows.{area_form, file_form, list_form, listed_answer, pair_form, rows_form}
+use Rattle.h3_command.specs.Rows.{area_form, file_form, list_form, list_form_as, listed_answer, pair_form, rows_form}
 use Rattle.h3_command.specs.ZoneSums.{zone_sums_answer}
 
 -- Request: what a command reads and writes: an answer that its words alone fix, one about the cells listed on standard
--- input, also with the number of a faulty line, one for each line of it, or one about the links of a base cell table;
+-- input, also with the number of a faulty line, and then with what is taken for the index of a line, one for each line
+-- of it, or one about the links of a base cell table;
 -- or one about the cells of a file, and then the cells listed on standard input, or for each line of it; or one about
 -- the links of a table, and then for each line of the list; or one about the areas of a table of zones with names, and
 -- then for each line of the list, or about the cells listed there. The file of cells and the list may have rows in a
@@ -61,7 +64,7 @@ use Rattle.h3_command.specs.ZoneSums.{zone_sums_answer}
 pub data Request : Type 0 where
   plain : Answer → Request
   of_list : Option Form → (List Address → Answer) → Request
-  of_numbered_list : Option Form → (List Address → Answer) → Request
+  of_numbered_list : Says → Option Form → (List Address → Answer) → Request
   of_lines : Option Form → (Option ℕ → Answer) → Request
   of_table : (Links → Answer) → Request
   of_file_and_list : CellFile → Option Form → Option Form → (List Address → List Address → Answer) → Request
@@ -129,6 +132,14 @@ abbrev pub counts_request : Tables → Option AreaOptions → Request
 counts_request tables None = zone_counts_request tables (summed tables.list tables.sum)
 counts_request tables (Some areas) = area_counts_request areas tables.list (summed tables.list tables.sum)
 
+-- parents_request r list sum: what is read and written for the counts of cells by their ancestors at a resolution, and
+-- of their numbers
+abbrev pub parents_request : ℤ → Option RowOptions → Option (RowOptions × CellField) → Request
+parents_request res list None =
+    of_numbered_list (parent_at res) (list_form_as (parent_at res) list) (parent_counts_answer list)
+parents_request res list (Some sum) =
+    of_rows (table_as (parent_at res) sum.0 sum.1 content.Number) (parent_sums_answer sum.0)
+
 -- by_request by list function whole: what a command reads and writes that answers about the cells of a list by a
 -- function: if a field divides the list's rows, about those of each of the field's values; or else what is given
 abbrev pub by_request : Option CellField → Option RowOptions → (List Address → Result (List Address) H3Error) → Request
@@ -186,10 +197,10 @@ request_of tables (command.UncompactCells res) =
     by_request tables.by tables.list (uncompact_cells res)
     (of_list (list_form tables.list) (λ cells. printed cell_lines (uncompact_cells res cells)))
 request_of tables (command.UncompactCellsSize res) =
-    of_numbered_list (list_form tables.list) (λ cells. printed number_line (uncompact_cells_size res cells))
+    of_numbered_list itself (list_form tables.list) (λ cells. printed number_line (uncompact_cells_size res cells))
 request_of tables command.UniteCells =
     by_request tables.by tables.list (λ cells. Ok (compacted cells))
-    (of_numbered_list (list_form tables.list) (λ cells. written (cell_lines (compacted cells))))
+    (of_numbered_list itself (list_form tables.list) (λ cells. written (cell_lines (compacted cells))))
 request_of tables command.IntersectCells =
     by_region_request tables.by tables.list (file_form tables) (λ region cells. intersection cells region)
 request_of tables command.SubtractCells =
@@ -198,6 +209,8 @@ request_of tables command.AreCoveredCells =
     of_file_and_lines Region (file_form tables) (rows_form tables.list (codes "isCovered")) covered_answer
 request_of tables command.CellsToZones = zones_request tables tables.areas
 request_of tables command.CountCellsInZones = counts_request tables tables.areas
+request_of tables (command.CountCellsInParents res) =
+    parents_request res tables.list (summed tables.list tables.sum)
 request_of tables (command.GridDiskUnsafe cell k) =
     with_table (λ c link. answer_or_error (walked cell_line) (grid_disk_unsafe link c k)) (cell_given cell)
 request_of tables (command.GridDiskDistancesUnsafe cell k) =
@@ -238,7 +251,7 @@ request c =
 abbrev pub reads_list : Request → Bool
 reads_list (plain a) = false
 reads_list (of_list form about) = true
-reads_list (of_numbered_list form about) = true
+reads_list (of_numbered_list says form about) = true
 reads_list (of_lines form about) = true
 reads_list (of_table about) = false
 reads_list (of_file_and_list f rows form about) = true
@@ -254,7 +267,7 @@ reads_list (of_areas_and_rows overlapping areas table about) = true
 abbrev pub reads_table : Request → Bool
 reads_table (plain a) = false
 reads_table (of_list form about) = false
-reads_table (of_numbered_list form about) = false
+reads_table (of_numbered_list says form about) = false
 reads_table (of_lines form about) = false
 reads_table (of_table about) = true
 reads_table (of_file_and_list f rows form about) = true
@@ -282,7 +295,7 @@ reads_list_after r file = reads_list r
 abbrev pub takes_memory : Request → Bool
 takes_memory (plain a) = false
 takes_memory (of_list form about) = true
-takes_memory (of_numbered_list form about) = true
+takes_memory (of_numbered_list says form about) = true
 takes_memory (of_lines form about) = true
 takes_memory (of_table about) = true
 takes_memory (of_file_and_list f rows form about) = true
@@ -321,10 +334,11 @@ abbrev pub about_list : Option Form → (List Address → Answer) → List ℕ �
 about_list None about list = answer_or_error about (listed_cells list)
 about_list (Some form) about list = about_rows form about list
 
--- about_numbered_list form about list: the same, where the error of a faulty line is reported with its number
-abbrev pub about_numbered_list : Option Form → (List Address → Answer) → List ℕ → Answer
-about_numbered_list None about list = answer_or_error_at (faulty_line list) about (listed_cells list)
-about_numbered_list (Some form) about list = about_rows form about list
+-- about_numbered_list says form about list: the same, where the error of a faulty line is reported with its number. On
+-- bare lines this is taken for the indexes of the cells; over rows, what their form says.
+abbrev pub about_numbered_list : Says → Option Form → (List Address → Answer) → List ℕ → Answer
+about_numbered_list says None about list = answer_or_error_at (faulty_line_as says list) about (listed_as says list)
+about_numbered_list says (Some form) about list = about_rows form about list
 
 -- about_table_rows table about list: the answer about the entries of the rows in a list of bytes: each a cell and its
 -- second field; or the error of the first row that ends the list, reported with its number, or of a column that a
@@ -337,18 +351,19 @@ about_table_rows table about list = unless_refused about (named_cells table (row
 abbrev pub answer_to : Request → List ℕ → List ℕ → Answer
 answer_to (plain a) list file = a
 answer_to (of_list form about) list file = about_list form about list
-answer_to (of_numbered_list form about) list file = about_numbered_list form about list
+answer_to (of_numbered_list says form about) list file = about_numbered_list says form about list
 answer_to (of_lines form about) list file = listed_answer form about list
 answer_to (of_table about) list file = about_table about file
 answer_to (of_file_and_list f rows form about) list file =
-    unless_refused (λ cells. about_numbered_list form (about cells) list) (file_cells f rows file)
+    unless_refused (λ cells. about_numbered_list itself form (about cells) list) (file_cells f rows file)
 answer_to (of_file_and_lines f rows form about) list file =
     unless_refused (λ cells. listed_answer form (about cells) list) (file_cells f rows file)
 answer_to (of_table_and_lines form about) list file = about_table (λ link. listed_answer form (about link) list) file
 answer_to (of_areas_and_lines overlapping table form about) list file =
     unless_refused (λ entries. listed_answer (form entries) (about entries) list) (areas_of_file overlapping table file)
 answer_to (of_areas_and_list overlapping table form about) list file =
-    unless_refused (λ entries. about_numbered_list form (about entries) list) (areas_of_file overlapping table file)
+    unless_refused (λ entries. about_numbered_list itself form (about entries) list)
+    (areas_of_file overlapping table file)
 answer_to (of_rows table about) list file = about_table_rows table about list
 answer_to (of_file_and_rows f rows table about) list file =
     unless_refused (λ cells. about_table_rows table (about cells) list) (file_cells f rows file)

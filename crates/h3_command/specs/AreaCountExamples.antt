@@ -1,5 +1,5 @@
 -- The counts of cells by the areas of a table at worked values, by computation.
-use Rattle.std.specs.Prelude.{◌≡◌, ℕ, false, true, List, [], ◌∷◌, ◌++◌, codes, Option, None, Some, Err, refl}
+use Rattle.std.specs.Prelude.{◌≡◌, false, true, List, [], ◌∷◌, ◌++◌, codes, Option, None, Some, Err, refl}
 use Rattle.std.specs.Fmt.{digits}
 use Rattle.h3_index.specs.Cell.{Address, number_of}
 use Rattle.h3_index.specs.CellNumber.{address_in, cell_in}

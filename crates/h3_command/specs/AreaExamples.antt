@@ -1,17 +1,17 @@
 -- The definitions of tables of zones with names at worked values, by computation.
-use Rattle.std.specs.Prelude.{map, ◌≡◌, ℕ, Bool, true, false, List, [], ◌∷◌, ◌++◌, codes, Option, None, Some, Result, Ok, Err, refl}
+use Rattle.std.specs.Prelude.{map, ◌≡◌, ℕ, Bool, true, false, List, [], ◌∷◌, ◌++◌, codes, Option, None, Some, Err, refl}
 use Rattle.h3_index.specs.Cell.{number_of}
 use Rattle.h3_index.specs.CellNumber.{address_in, cell_in}
 use Rattle.h3_index.specs.Text.{parsed_index}
-use Rattle.h3_index.specs.declared.error.H3Error.TheVariants.{CellInvalid, DuplicateInput}
+use Rattle.h3_index.specs.declared.error.H3Error.TheVariants.{DuplicateInput}
 use Rattle.h3_regions.specs.Areas.{areas_of}
-use Rattle.h3_lines.specs.Answer.{Answer, refused, written}
-use Rattle.h3_lines.specs.declared.run_error.AnswerError.TheVariants.{At, File, FileAtRow, FileColumn}
+use Rattle.h3_lines.specs.List.{itself}
+use Rattle.h3_lines.specs.Answer.{written}
+use Rattle.h3_lines.specs.declared.run_error.AnswerError.TheVariants.{File, FileAtRow, FileColumn}
 use Rattle.h3_lines.specs.declared.run_error.CellFile.TheVariants.{Zones}
 use Rattle.h3_lines.specs.declared.run_error.ColumnError.TheVariants.{NotFound, NotUnique}
 use Rattle.h3_lines.specs.declared.run_error.RowError.TheVariants.{Bad}
-use Rattle.h3_lines.specs.declared.run_error.RowFault.TheVariants.{NoSuchField, NotAnIndex}
-use Rattle.h3_rows.specs.Areas.{area_cells, title_of}
+use Rattle.h3_lines.specs.declared.run_error.RowFault.TheVariants.{NotAnIndex}
 use Rattle.h3_rows.specs.Named.{Entry, Table}
 use Rattle.h3_rows.specs.declared.table.FieldContent.TheVariants.{Text}
 use Rattle.h3_rows.specs.RowsAnswer.{After, Choice, Form, Named}
@@ -26,6 +26,7 @@ commas choice has_header names quoted = record {
   separator = 44;
   quotes = true;
   choice = choice;
+  says = itself;
   has_header = has_header;
   names = names;
   empty = [];

@@ -4,6 +4,7 @@ use Rattle.h3_index.specs.Cell.{Address, number_of}
 use Rattle.h3_index.specs.CellNumber.{address_in, cell_in}
 use Rattle.h3_index.specs.Text.{parsed_index, text_of}
 use Rattle.h3_index.specs.declared.error.H3Error.TheVariants.{CellInvalid, DuplicateInput, Failed}
+use Rattle.h3_lines.specs.List.{itself}
 use Rattle.h3_lines.specs.Answer.{written}
 use Rattle.h3_lines.specs.declared.run_error.AnswerError.{AnswerError}
 use Rattle.h3_lines.specs.declared.run_error.AnswerError.TheVariants.{File, FileAt, FileAtRow, FileColumn}
@@ -22,6 +23,7 @@ commas choice has_header = record {
   separator = 44;
   quotes = true;
   choice = choice;
+  says = itself;
   has_header = has_header;
   names = [] ∷ [];
   empty = [];

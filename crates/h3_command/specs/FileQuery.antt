@@ -11,6 +11,7 @@ use Rattle.h3_requests.specs.declared.rows.RowOptions.{RowOptions}
 use Rattle.h3_command.specs.Combination.{combined_answer}
 use Rattle.h3_command.specs.Files.{counts_answer, covered_answer, zone_answer}
 use Rattle.h3_command.specs.Rows.{list_form, rows_form}
+use Rattle.h3_lines.specs.List.{itself}
 use Rattle.h3_command.specs.Run.{EndsLines, EndsNumberedList}
 use Rattle.h3_command.specs.declared.file_query.FileQuery.{FileQuery}
 use Rattle.h3_command.specs.declared.file_query.FileQuery.TheVariants.{Combined, Counts, Covered, Zones}
@@ -26,9 +27,10 @@ file_of Counts = file.Zones
 abbrev pub EndsOver : FileQuery → Option RowOptions → List Address → SourceUse → Result (Unit {0}) RunError → SinkUse
     → Type 0
 EndsOver (Combined kind) rows cells input ending out =
-    EndsNumberedList (list_form rows) (combined_answer kind cells) input ending out
+    EndsNumberedList itself (list_form rows) (combined_answer kind cells) input ending out
 EndsOver Covered rows cells input ending out =
     EndsLines (rows_form rows (codes "isCovered")) (covered_answer cells) input ending out
 EndsOver Zones rows cells input ending out =
     EndsLines (rows_form rows (codes "zone")) (zone_answer cells) input ending out
-EndsOver Counts rows cells input ending out = EndsNumberedList (list_form rows) (counts_answer cells) input ending out
+EndsOver Counts rows cells input ending out =
+    EndsNumberedList itself (list_form rows) (counts_answer cells) input ending out

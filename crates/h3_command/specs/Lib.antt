@@ -24,6 +24,11 @@ pub mod LongAnswers
 pub mod LongExamples
 pub mod NewColumns
 pub mod OverlapTally
+pub mod ParentEntries
+pub mod ParentExamples
+pub mod ParentRuns
+pub mod ParentSums
+pub mod Parents
 pub mod Plan
 pub mod Required
 pub mod Rows

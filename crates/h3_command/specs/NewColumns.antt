@@ -59,7 +59,7 @@ AreLinesOf Is text = (lines : List (List ℕ)) × All Is lines × (text ≡ flat
 abbrev pub AnswersBy : (Answer → Type 0) → Request → Type 0
 AnswersBy Is (plain a) = ⊤
 AnswersBy Is (of_list form about) = ⊤
-AnswersBy Is (of_numbered_list form about) = ⊤
+AnswersBy Is (of_numbered_list says form about) = ⊤
 AnswersBy Is (of_lines form about) = (index : Option ℕ) → Is (about index)
 AnswersBy Is (of_table about) = ⊤
 AnswersBy Is (of_file_and_list f rows form about) = ⊤

@@ -1,13 +1,14 @@
 -- Lists, bare or of rows: answered line by line, where each row is written with the answer to its own cell beside it,
 -- or by their cells as a whole.
-use Rattle.std.specs.Prelude.{ℕ, Bool, false, List, [], Option, None, Some, codes, option_map, unwrap_or}
+use Rattle.std.specs.Prelude.{ℕ, Bool, List, [], Option, None, Some, codes, option_map, unwrap_or}
 use Rattle.h3_lines.specs.Answer.{Answer}
 use Rattle.h3_lines.specs.EachLine.{list_answer}
+use Rattle.h3_lines.specs.List.{Says}
 use Rattle.h3_requests.specs.declared.rows.RowOptions.{RowOptions}
 use Rattle.h3_requests.specs.declared.rows.Tables.{Tables}
 use Rattle.h3_rows.specs.Areas.{title_of}
 use Rattle.h3_rows.specs.Named.{Entry}
-use Rattle.h3_rows.specs.RowForm.{form_of, pair_form_of, text_form_of}
+use Rattle.h3_rows.specs.RowForm.{form_as, form_of, pair_form_of, text_form_of}
 use Rattle.h3_rows.specs.RowsAnswer.{Form}
 use Rattle.h3_rows.specs.RowsAnswer.{list_answer as row_answers}
 
@@ -37,6 +38,10 @@ area_form rows quotes entries = text_form rows quotes (title_or_zone entries)
 -- list_form rows: the form of a list's rows, if it has rows, of which the cells alone are read: no column is added
 abbrev pub list_form : Option RowOptions → Option Form
 list_form rows = rows_form rows []
+
+-- list_form_as says rows: the same where this is taken for the indexes of the cells
+abbrev pub list_form_as : Says → Option RowOptions → Option Form
+list_form_as says rows = option_map (form_as says) rows
 
 -- file_form tables: the form of the rows of a file of cells, if it has rows, of which the cells alone are read
 abbrev pub file_form : Tables → Option Form

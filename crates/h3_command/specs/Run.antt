@@ -16,7 +16,7 @@ use Rattle.h3_lines.specs.declared.run_error.RunError.TheVariants.{Error, Fault}
 use Rattle.h3_lines.specs.Answer.{Answer}
 use Rattle.h3_lines.specs.Write.{IsLeft, Reports, SinkUse, Takes, Writes}
 use Rattle.h3_lines.specs.EachLine.{EndsEach}
-use Rattle.h3_lines.specs.List.{listed_cells}
+use Rattle.h3_lines.specs.List.{Says, itself, listed_as, listed_cells}
 use Rattle.h3_lines.specs.Pieces.{rows_of}
 use Rattle.h3_lines.specs.Reads.{IsListWithinReads, IsReadToEnd, IsWithinReads, NoReadFails, SourceUse, StopsWithin}
 use Rattle.h3_lines.specs.RunError.{ending_of}
@@ -59,14 +59,14 @@ WritesReading a bytes was_read source (Err (Fault Memory)) out = NoReadFails sou
 WritesReading a bytes was_read source (Err (Fault Read)) out = ReadFails source bytes × IsLeft out
 WritesReading a bytes was_read source ending out = was_read × NoReadFails source × Writes a ending out
 
--- IsReadSoFar cells source ending: how far a list is read: one that has cells to its end, but where there is no memory;
--- one with a first error at most a page further than bytes in which no line is known to be faulty; where a read fails,
+-- IsReadSoFar says cells source ending: how far a list is read: one that has cells to its end, but where there is no
+-- memory; one with a first error at most a page further than bytes in which no line is known to be faulty; where a read fails,
 -- no further than these
-abbrev pub IsReadSoFar : Result (List Address) H3Error → SourceUse → Result (Unit {0}) RunError → Type 0
-IsReadSoFar cells source (Err (Fault Read)) = StopsWithin 0 source
-IsReadSoFar (Err e) source ending = StopsWithin 65536 source
-IsReadSoFar (Ok cells) source (Err (Fault Memory)) = IsReadToEnd source ⊎ StopsWithin 65536 source
-IsReadSoFar (Ok cells) source ending = IsReadToEnd source
+abbrev pub IsReadSoFar : Says → Result (List Address) H3Error → SourceUse → Result (Unit {0}) RunError → Type 0
+IsReadSoFar says cells source (Err (Fault Read)) = StopsWithin says 0 source
+IsReadSoFar says (Err e) source ending = StopsWithin says 65536 source
+IsReadSoFar says (Ok cells) source (Err (Fault Memory)) = IsReadToEnd source ⊎ StopsWithin says 65536 source
+IsReadSoFar says (Ok cells) source ending = IsReadToEnd source
 
 -- WritesOfList about input ending out: there are bytes of the list, those left where known, and what is written is the
 -- answer about them
@@ -76,16 +76,18 @@ IsReadSoFar (Ok cells) source ending = IsReadToEnd source
 abbrev pub WritesOfList : (List Address → Answer) → SourceUse → Result (Unit {0}) RunError → SinkUse → Type 0
 WritesOfList about input ending out =
     (list : List ℕ) × HasLeft input.left list
-    × WritesReading (about_list None about list) list (IsListWithinReads (2 ^ 40) 65536 list) input ending out
-    × IsReadSoFar (listed_cells list) input ending
+    × WritesReading (about_list None about list) list (IsListWithinReads itself (2 ^ 40) 65536 list) input ending out
+    × IsReadSoFar itself (listed_cells list) input ending
 
--- WritesOfNumberedList about input ending out: the same, where the error of a faulty line is reported with its number
-abbrev pub WritesOfNumberedList : (List Address → Answer) → SourceUse → Result (Unit {0}) RunError → SinkUse → Type 0
-WritesOfNumberedList about input ending out =
+-- WritesOfNumberedList says about input ending out: the same, where this is taken for the indexes of the cells, and the
+-- error of a faulty line is reported with its number
+abbrev pub WritesOfNumberedList : Says → (List Address → Answer) → SourceUse → Result (Unit {0}) RunError → SinkUse
+    → Type 0
+WritesOfNumberedList says about input ending out =
     (list : List ℕ) × HasLeft input.left list
-    × WritesReading (about_numbered_list None about list) list
-    (IsListWithinReads (2 ^ 40) 65536 list) input ending out
-    × IsReadSoFar (listed_cells list) input ending
+    × WritesReading (about_numbered_list says None about list) list
+    (IsListWithinReads says (2 ^ 40) 65536 list) input ending out
+    × IsReadSoFar says (listed_as says list) input ending
 
 -- GivesRows form input cells: the rows of a list are read to their end, no read fails, and these are their cells
 abbrev pub GivesRows : Form → SourceUse → List Address → Type 0
@@ -113,11 +115,12 @@ abbrev pub EndsList : Option Form → (List Address → Answer) → SourceUse �
 EndsList None about input ending out = WritesOfList about input ending out
 EndsList (Some form) about input ending out = WritesOfRows form about input ending out
 
--- EndsNumberedList form about input ending out: the same, where the error of a faulty line is reported with its number
-abbrev pub EndsNumberedList : Option Form → (List Address → Answer) → SourceUse → Result (Unit {0}) RunError → SinkUse
-    → Type 0
-EndsNumberedList None about input ending out = WritesOfNumberedList about input ending out
-EndsNumberedList (Some form) about input ending out = WritesOfRows form about input ending out
+-- EndsNumberedList says form about input ending out: the same, where this is taken for the indexes of the cells, and
+-- the error of a faulty line is reported with its number
+abbrev pub EndsNumberedList : Says → Option Form → (List Address → Answer) → SourceUse → Result (Unit {0}) RunError
+    → SinkUse → Type 0
+EndsNumberedList says None about input ending out = WritesOfNumberedList says about input ending out
+EndsNumberedList says (Some form) about input ending out = WritesOfRows form about input ending out
 
 -- IsReadWhole source ending: the source is read to its end, but where there is no memory or a read fails
 abbrev pub IsReadWhole : SourceUse → Result (Unit {0}) RunError → Type 0
@@ -151,7 +154,7 @@ pub record IsTableReadTo (form : Form) (most : ℕ) (bytes : List ℕ) (file : S
 -- IsFileReadTo form n bytes file: at most n bytes of a file of cells are read after those in which no line is known
 -- to be faulty; or, if it has rows in a form, after rows that have no error
 abbrev pub IsFileReadTo : Option Form → ℕ → List ℕ → SourceUse → Type 0
-IsFileReadTo None most bytes file = StopsWithin most file
+IsFileReadTo None most bytes file = StopsWithin itself most file
 IsFileReadTo (Some form) most bytes file = IsTableReadTo form most bytes file
 
 -- IsFileReadWhole bytes file: the file of cells is read to its end, in reads that may be made
@@ -173,7 +176,8 @@ IsTableReadSoFar form (Err e) bytes file =
 -- in a form, as `IsTableReadSoFar` says of their cells
 abbrev pub IsFileReadSoFar : Option Form → AnswerError → List ℕ → SourceUse → Type 0
 IsFileReadSoFar None (File f e) bytes file = IsFileReadWhole bytes file
-IsFileReadSoFar None e bytes file = IsListWithinReads (2 ^ 40) 65536 bytes × StopsWithin 65536 file
+IsFileReadSoFar None e bytes file =
+    IsListWithinReads itself (2 ^ 40) 65536 bytes × StopsWithin itself 65536 file
 IsFileReadSoFar (Some form) e bytes file = IsTableReadSoFar form (cells_of_table form bytes) bytes file
 
 -- RefusesFile f form bytes file ending: the bytes of a file of cells, which may have rows in a form, are refused, as
@@ -305,11 +309,11 @@ EndsEntries table about input ending out =
 abbrev pub Ends : Request → SourceUse → SourceUse → Result (Unit {0}) RunError → SinkUse → Type 0
 Ends (plain a) input table ending out = Writes a ending out
 Ends (of_list form about) input table ending out = EndsList form about input ending out
-Ends (of_numbered_list form about) input table ending out = EndsNumberedList form about input ending out
+Ends (of_numbered_list says form about) input table ending out = EndsNumberedList says form about input ending out
 Ends (of_lines form about) input table ending out = EndsLines form about input ending out
 Ends (of_table about) input table ending out = WritesOfTable about table ending out
 Ends (of_file_and_list f rows form about) input file ending out =
-    EndsOverFile f rows (λ cells. EndsNumberedList form (about cells) input ending out) input file ending out
+    EndsOverFile f rows (λ cells. EndsNumberedList itself form (about cells) input ending out) input file ending out
 Ends (of_file_and_lines f rows form about) input file ending out =
     EndsOverFile f rows (λ cells. EndsLines form (about cells) input ending out) input file ending out
 Ends (of_table_and_lines form about) input table ending out =
@@ -319,7 +323,7 @@ Ends (of_areas_and_lines overlapping table form about) input file ending out =
     (λ entries. EndsLines (form entries) (about entries) input ending out) input file ending out
 Ends (of_areas_and_list overlapping table form about) input file ending out =
     EndsOverAreas overlapping table
-    (λ entries. EndsNumberedList form (about entries) input ending out) input file ending out
+    (λ entries. EndsNumberedList itself form (about entries) input ending out) input file ending out
 Ends (of_rows table about) input file ending out = EndsEntries table about input ending out
 Ends (of_file_and_rows f rows table about) input file ending out =
     EndsOverFile f rows (λ cells. EndsEntries table (about cells) input ending out) input file ending out

@@ -30,7 +30,7 @@ sums_none areas quotes sums none title = record {
   more = λ before h. subst (λ l. AreAreaSums areas l sums none) (sym (append-nil before)) h;
 }
 
-amounts_both : (quotes : Bool) (xs ys : List Entry)
+pub amounts_both : (quotes : Bool) (xs ys : List Entry)
     → amounts_among quotes (xs ++ ys) ≡ amounts_among quotes xs ++ amounts_among quotes ys
 amounts_both quotes [] ys = refl
 amounts_both quotes (e ∷ xs) ys =
@@ -43,7 +43,7 @@ amounts_both quotes (e ∷ xs) ys =
     ] in
     go e.cell
 
-title_both : (title : Option (List ℕ)) (xs ys : List Entry)
+pub title_both : (title : Option (List ℕ)) (xs ys : List Entry)
     → title_after title (xs ++ ys) ≡ title_after (title_after title xs) ys
 title_both title [] ys = refl
 title_both title (x ∷ xs) ys = title_both (title_with title x.cell x.field) xs ys

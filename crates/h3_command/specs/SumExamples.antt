@@ -1,5 +1,5 @@
 -- The counts and sums of rows by the areas of a table at worked values, by computation.
-use Rattle.std.specs.Prelude.{◌≡◌, ℕ, false, true, List, [], ◌∷◌, ◌++◌, codes, Err, refl}
+use Rattle.std.specs.Prelude.{◌≡◌, false, true, List, [], ◌∷◌, ◌++◌, codes, Err, refl}
 use Rattle.std.specs.Fmt.{digits}
 use Rattle.h3_index.specs.Cell.{number_of}
 use Rattle.h3_index.specs.CellNumber.{address_in, cell_in}
@@ -15,7 +15,7 @@ use Rattle.h3_rows.specs.RowsAnswer.{After, Named}
 use Rattle.h3_rows.specs.declared.table.FieldContent.TheVariants.{Number}
 use Rattle.h3_command.specs.Answer.{answer_to}
 use Rattle.h3_command.specs.Answer.Request.{of_areas_and_rows}
-use Rattle.h3_command.specs.AreaExamples.{commas, in_columns, overlapping, p, q, south, trips, worked, x}
+use Rattle.h3_command.specs.AreaExamples.{commas, in_columns, overlapping, p, q, south, trips, worked}
 use Rattle.h3_command.specs.Rows.{title_or_zone}
 use Rattle.h3_command.specs.SumAnswers.{amounts_among, area_sums, sum_titles}
 use Rattle.h3_command.specs.SumTables.{sums_table}

@@ -1,5 +1,5 @@
 -- Numbers that are added up by areas one after another. Private contracts and proofs alone cite this file.
-use Rattle.std.specs.Prelude.{◌≡◌, ℕ, ◌+◌, ◌<◌, Bool, List, length, map, slice_index_or, count_by, ℤ, ◌+ℤ◌}
+use Rattle.std.specs.Prelude.{◌≡◌, ℕ, ◌+◌, ◌<◌, Bool, List, length, slice_index_or, count_by, ◌+ℤ◌}
 use Rattle.h3_index.specs.Cell.{Address}
 use Rattle.h3_numbers.specs.Number.{number_units}
 use Rattle.h3_numbers.specs.Sum.{sum_count, sum_units}

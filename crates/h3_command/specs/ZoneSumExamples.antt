@@ -1,5 +1,5 @@
 -- The counts and sums of rows by zones without names at worked values, by computation.
-use Rattle.std.specs.Prelude.{◌≡◌, ℕ, Bool, false, true, List, [], ◌∷◌, ◌++◌, codes, Option, None, Some, Err, refl}
+use Rattle.std.specs.Prelude.{◌≡◌, ℕ, Bool, false, true, List, [], ◌∷◌, ◌++◌, codes, None, Some, Err, refl}
 use Rattle.std.specs.Fmt.{digits}
 use Rattle.h3_index.specs.Cell.{Address, number_of}
 use Rattle.h3_index.specs.CellNumber.{address_in, cell_in}
@@ -17,7 +17,7 @@ use Rattle.h3_requests.specs.declared.command.Command.TheVariants.{CountCellsInZ
 use Rattle.h3_requests.specs.declared.rows.CellField.TheVariants as field
 use Rattle.h3_requests.specs.declared.rows.Tables.{Tables}
 use Rattle.h3_rows.specs.Named.{Entry, Table}
-use Rattle.h3_rows.specs.RowsAnswer.{After, Form, Named}
+use Rattle.h3_rows.specs.RowsAnswer.{After, Named}
 use Rattle.h3_rows.specs.declared.table.FieldContent.TheVariants.{Number}
 use Rattle.h3_command.specs.Answer.{answer_to, request_of}
 use Rattle.h3_command.specs.Answer.Request.{of_file_and_rows}

@@ -6,6 +6,7 @@ ghost use Rattle.std.specs.List.{flat_map};
 ghost use Rattle.h3_index.specs.Cell.{Address};
 ghost use Rattle.h3_lines.specs.Answer.{written};
 ghost use Rattle.h3_lines.specs.Answering.{FailsPush, Moves};
+ghost use Rattle.h3_lines.specs.List.{itself};
 ghost use Rattle.h3_lines.specs.Reads.{source_use};
 ghost use Rattle.h3_lines.specs.Write.{Writes, sink_use};
 ghost use Rattle.h3_rows.specs.Areas.{area_cells, names_in};
@@ -61,6 +62,11 @@ impl<'a> CellJob for AreaTally<'a> {
             &mut self.place,
         );
         Ok(())
+    }
+
+    #[inline(always)]
+    fn look_for(&self, cell: Cell) -> Option<usize> {
+        Some(self.tabled.look_for(cell.raw(), self.place))
     }
 
     #[inline(always)]
@@ -125,7 +131,7 @@ pub(crate) fn put_name<W: Sink>(
 
 /// Puts the row of a name and a count after the bytes held back in a block, which end at `end`, and
 /// returns where they end then.
-fn put_row<W: Sink>(
+pub(crate) fn put_row<W: Sink>(
     out: &mut W,
     block: &mut [u8; BLOCK],
     end: usize,
@@ -147,7 +153,7 @@ fn put_row<W: Sink>(
 
 /// Puts the header of a table of counts, if there is a title, into an empty block, and returns where it
 /// ends.
-fn put_header<W: Sink>(
+pub(crate) fn put_header<W: Sink>(
     out: &mut W,
     block: &mut [u8; BLOCK],
     separator: u8,
@@ -261,7 +267,7 @@ fn count_apart<R: Source, W: Sink>(
     out: &mut W,
 ) -> Result<(), RunError>
     requires { All (λ p. p.1 < length names.now.spans.items) areas }
-    ensures { EndsNumberedList (list_form list.now)
+    ensures { EndsNumberedList itself (list_form list.now)
         (λ cells. written (counts_table options.now.table.rows.separator
         (if has_header options.now list.now then Some title.now else None)
         (area_counts (string_bytes options.now.none)
@@ -308,7 +314,7 @@ fn count_in_each<R: Source, W: Sink>(
 ) -> Result<(), RunError>
     requires room { length areas ≤ room }
     requires small { All (λ p. p.1 < length names.now.spans.items) areas }
-    ensures { EndsNumberedList (list_form list.now)
+    ensures { EndsNumberedList itself (list_form list.now)
         (λ cells. written (counts_table options.now.table.rows.separator
         (if has_header options.now list.now then Some title.now else None)
         (area_counts (string_bytes options.now.none)
@@ -353,7 +359,7 @@ fn count_overlapping<R: Source, W: Sink>(
     ensures { (entries : List Entry) → HoldsAreas options.now.table.rows.quotes entries table.old
         → EndsJudged (overlap_error options.now.overlapping
         (area_cells options.now.table.rows.quotes entries))
-        (EndsNumberedList (list_form list.now) (area_counts_answer options.now list.now entries)
+        (EndsNumberedList itself (list_form list.now) (area_counts_answer options.now list.now entries)
         (source_use R.left R.has_failed input.old input.new) result
         (sink_use W.taken W.has_failed out.old out.new))
         (source_use R.left R.has_failed input.old input.new) result
@@ -390,7 +396,7 @@ fn count_unless_overlapping<R: Source, W: Sink>(
     ensures { (entries : List Entry) → HoldsAreas options.now.table.rows.quotes entries table.old
         → EndsJudged (overlap_error options.now.overlapping
         (area_cells options.now.table.rows.quotes entries))
-        (EndsNumberedList (list_form list.now) (area_counts_answer options.now list.now entries)
+        (EndsNumberedList itself (list_form list.now) (area_counts_answer options.now list.now entries)
         (source_use R.left R.has_failed input.old input.new) result
         (sink_use W.taken W.has_failed out.old out.new))
         (source_use R.left R.has_failed input.old input.new) result
@@ -419,7 +425,7 @@ fn count_areas<R: Source, W: Sink>(
     ensures { (entries : List Entry) → HoldsAreas options.now.table.rows.quotes entries table.old
         → EndsJudged (overlap_error options.now.overlapping
         (area_cells options.now.table.rows.quotes entries))
-        (EndsNumberedList (list_form list.now) (area_counts_answer options.now list.now entries)
+        (EndsNumberedList itself (list_form list.now) (area_counts_answer options.now list.now entries)
         (source_use R.left R.has_failed input.old input.new) result
         (sink_use W.taken W.has_failed out.old out.new))
         (source_use R.left R.has_failed input.old input.new) result
@@ -445,7 +451,7 @@ pub(crate) fn count_over_areas<R: Source, T: Source, W: Sink>(
     out: &mut W,
 ) -> Result<(), RunError>
     ensures { EndsOverAreas options.now.overlapping (names_table options.now.table)
-        (λ entries. EndsNumberedList (list_form list.now)
+        (λ entries. EndsNumberedList itself (list_form list.now)
         (area_counts_answer options.now list.now entries)
         (source_use R.left R.has_failed input.old input.new) result
         (sink_use W.taken W.has_failed out.old out.new))

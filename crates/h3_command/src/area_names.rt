@@ -46,6 +46,11 @@ impl<'a> TextFunction for AreaOf<'a> {
     }
 
     #[inline(always)]
+    fn look_for(&self, index: u64, place: usize) -> usize {
+        self.tabled.look_for(index, place)
+    }
+
+    #[inline(always)]
     fn look_ahead(&self, indexes: &[u64], place: usize) -> Option<[usize; LINES]> {
         look_ahead(&self.tabled, indexes, place)
     }

@@ -1,7 +1,7 @@
 //! How many rows of a list have their cells in each of the areas of a table of zones with names, and what
 //! the numbers in these rows add up to.
 
-ghost use Rattle.std.specs.Prelude.{◌≡◌, ◌+◌, ◌<◌, ◌≤◌, ℕ, true, All, List, IfErr, IfOk, None, Some, false, length, option_map, pos, string_bytes, unwrap_or, codes};
+ghost use Rattle.std.specs.Prelude.{◌≡◌, ◌+◌, ◌<◌, ◌≤◌, ℕ, true, All, List, IfErr, IfOk, IfSome, None, Some, false, length, option_map, pos, string_bytes, unwrap_or, codes};
 ghost use Rattle.h3_index.specs.Cell.{Address};
 ghost use Rattle.h3_requests.specs.Rows.{is_counted};
 ghost use Rattle.h3_lines.specs.Answer.{written};
@@ -12,7 +12,7 @@ ghost use Rattle.h3_lines.specs.declared.run_error.RunError.TheVariants as refus
 ghost use Rattle.h3_numbers.specs.Number.{number_units};
 ghost use Rattle.h3_numbers.specs.Sum.{sum_count, sum_units};
 ghost use Rattle.h3_rows.specs.Areas.{area_cells, names_in};
-ghost use Rattle.h3_rows.specs.Named.{Entry, names_table, table_of};
+ghost use Rattle.h3_rows.specs.Named.{Entry, IsNumberOf, names_table, table_of};
 ghost use Rattle.h3_rows.specs.declared.table.FieldContent.TheVariants as content;
 ghost use Rattle.h3_command.specs.AreaCounts.{has_header};
 ghost use Rattle.h3_command.specs.AreaTable.{EndsJudged, HoldsAreas};
@@ -24,7 +24,7 @@ ghost use Rattle.h3_command.specs.SumRows.{titles_of};
 ghost use Rattle.h3_command.specs.SumTables.{sums_table};
 
 use crate::areas::{name_of_column, numbers_for, read_table};
-use crate::files::slots_for;
+use crate::files::{slots_for, table_of};
 use crate::sum_rows::{RowNames, SumForm, write_sums};
 use crate::sum_tally::{Apart, FindAreas, Overlapping, add_amount};
 use h3_index::Cell;
@@ -32,18 +32,24 @@ use h3_lines::{AnswerError, CellFile, Fault, RunError};
 use h3_numbers::laws::clones_are_equal;
 use h3_numbers::{Number, Sum};
 use h3_regions::laws::areas_are_lawful;
-use h3_regions::{ApartAreas, Areas};
+use h3_regions::{ApartAreas, Areas, TabledZones, Zones};
 use h3_requests::{AreaOptions, CellField, RowOptions};
 use h3_rows::laws::areas_divide_cells;
 use h3_rows::{AreaTable, FieldContent, NamedJob, Names, field_number, take_named_cells};
 use h3_streams::{Sink, Source};
 use std::alloc::Global;
 
-/// The number in a field of a row that is read, and 0 for a text that is none.
-fn amount_in(quotes: bool, field: &[u8]) -> Number
+/// The number in a field of a row that is read, which may be known already, and 0 for a text that is none.
+#[inline(always)]
+pub(crate) fn amount_in(known: Option<Number>, quotes: bool, field: &[u8]) -> Number
+    requires { IfSome known (IsNumberOf field.now) }
     ensures { number_units result ≡ amount_in quotes field.now }
 {
-    match field_number(quotes, field) {
+    let read = match known {
+        Some(_) => known,
+        None => field_number(quotes, field),
+    };
+    match read {
         Some(number) => number,
         None => Number::zero(),
     }
@@ -74,7 +80,13 @@ impl<F: FindAreas> NamedJob for SumTally<F> {
         t.sums.items t.none u.sums.items u.none
         (option_map (λ b. b.items) t.title) (option_map (λ b. b.items) u.title) entries };
 
-    fn take(&mut self, cell: Option<Cell>, field: &[u8], _row: u64) -> Result<(), RunError> {
+    fn take(
+        &mut self,
+        cell: Option<Cell>,
+        field: &[u8],
+        known: Option<Number>,
+        _row: u64,
+    ) -> Result<(), RunError> {
         let Some(cell) = cell else {
             return match Vec::from_slice(self.alloc, field) {
                 Ok(title) => {
@@ -84,7 +96,7 @@ impl<F: FindAreas> NamedJob for SumTally<F> {
                 Err(_) => Err(RunError::Fault(Fault::Memory)),
             };
         };
-        let number = amount_in(self.quotes, field);
+        let number = amount_in(known, self.quotes, field);
         self.none = add_amount(
             &mut self.finder,
             cell,
@@ -118,7 +130,7 @@ impl RowNames for Names {
 
 /// The title of the column of sums: that of the column of numbers in the header of a list, `sum` if there is
 /// none.
-fn sum_title(title: &Option<Vec<u8>>) -> &[u8]
+pub(crate) fn sum_title(title: &Option<Vec<u8>>) -> &[u8]
     ensures { result.now ≡ unwrap_or (option_map (λ b. b.items) title.now) (codes "sum") }
 {
     match title {
@@ -150,7 +162,11 @@ fn area_form<'a>(options: &'a AreaOptions, list: &RowOptions, title: &'a [u8]) -
 }
 
 /// The titles of the columns of names and of sums, if there is a header.
-fn titles_if<'a>(has_header: bool, names: &'a [u8], sums: &'a [u8]) -> Option<(&'a [u8], &'a [u8])>
+pub(crate) fn titles_if<'a>(
+    has_header: bool,
+    names: &'a [u8],
+    sums: &'a [u8],
+) -> Option<(&'a [u8], &'a [u8])>
     ensures { option_map (λ t. (t.0.now, t.1.now)) result ≡ titles_of has_header names.now sums.now }
 {
     if has_header {
@@ -287,7 +303,13 @@ fn sum_apart<R: Source, W: Sink>(
     let title = name_of_column(&table.title);
     match ApartAreas::of(&mut table.cells, &mut slots) {
         Ok(areas) => {
-            let finder = Apart { areas, place: 0 };
+            let zones = Zones::over(areas.cells());
+            let places = table_of(alloc, &zones)?;
+            let finder = Apart {
+                areas,
+                tabled: TabledZones::over(&zones, &places),
+                place: 0,
+            };
             let form = area_form(options, list, title);
             sum_found(
                 alloc,

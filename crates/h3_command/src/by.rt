@@ -14,6 +14,7 @@ ghost use Rattle.h3_command.specs.ByValue.{AreApart, part_of};
 ghost use Rattle.h3_rows.specs.Areas.{names_in};
 ghost use Rattle.h3_command.specs.Rows.{list_form};
 ghost use Rattle.h3_command.specs.Run.{Ends, EndsEntries, WritesUnlessMemory};
+ghost use Rattle.h3_lines.specs.List.{itself};
 ghost use Rattle.h3_lines.specs.Reads.{SourceUse, source_use};
 ghost use Rattle.h3_requests.specs.Rows.{is_counted};
 ghost use Rattle.h3_rows.specs.Named.{table_of};
@@ -269,7 +270,7 @@ pub(crate) fn answer_numbered_lists<F: ListFunction + ListOfValue + Drop, R: Sou
     out: &mut W,
 ) -> Result<(), RunError>
     ensures { (table : SourceUse) → Ends (by_request tables.now.by tables.now.list (F.list_of function)
-        (of_numbered_list (list_form tables.now.list) (F.answer_of function)))
+        (of_numbered_list itself (list_form tables.now.list) (F.answer_of function)))
         (source_use R.left R.has_failed input.old input.new) table result
         (sink_use W.taken W.has_failed out.old out.new) }
 {

@@ -5,6 +5,7 @@ ghost use Rattle.std.specs.Prelude.{◌≡◌, ◌+◌, List, length, sum};
 ghost use Rattle.h3_index.specs.Cell.{Address};
 ghost use Rattle.h3_regions.specs.Counting.{AreCounts};
 ghost use Rattle.h3_regions.specs.Zones.{IsZones};
+ghost use Rattle.h3_lines.specs.List.{itself};
 ghost use Rattle.h3_lines.specs.Reads.{source_use};
 ghost use Rattle.h3_lines.specs.Write.{Writes, sink_use};
 ghost use Rattle.h3_command.specs.Files.{counts_answer};
@@ -54,6 +55,11 @@ impl<'z> CellJob for Tally<'z> {
     }
 
     #[inline(always)]
+    fn look_for(&self, cell: Cell) -> Option<usize> {
+        Some(self.tabled.look_for(cell.raw(), self.place))
+    }
+
+    #[inline(always)]
     fn looks_ahead(&self) -> bool {
         true
     }
@@ -97,7 +103,7 @@ pub(crate) fn answer_counts<R: Source, W: Sink>(
     out: &mut W,
 ) -> Result<(), RunError>
     requires { IsZones zones.now }
-    ensures { EndsNumberedList (list_form rows.now) (counts_answer zones.now)
+    ensures { EndsNumberedList itself (list_form rows.now) (counts_answer zones.now)
         (source_use R.left R.has_failed input.old input.new) result
         (sink_use W.taken W.has_failed out.old out.new) }
 {

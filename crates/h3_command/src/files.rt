@@ -345,6 +345,11 @@ impl<'r> AnswerLine for CoveredBy<'r> {
     }
 
     #[inline(always)]
+    fn look_for(&self, index: u64, place: usize) -> usize {
+        self.tabled.look_for(index, place)
+    }
+
+    #[inline(always)]
     fn look_ahead(&self, indexes: &[u64], place: usize) -> Option<[usize; LINES]> {
         look_ahead(&self.tabled, indexes, place)
     }
@@ -374,6 +379,11 @@ impl<'z> AnswerLine for ZoneOf<'z> {
     #[inline(always)]
     fn looks_ahead(&self) -> bool {
         true
+    }
+
+    #[inline(always)]
+    fn look_for(&self, index: u64, place: usize) -> usize {
+        self.tabled.look_for(index, place)
     }
 
     #[inline(always)]

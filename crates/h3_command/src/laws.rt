@@ -3,11 +3,14 @@
 ghost use Rattle.h3_command.specs.AreaCounts.{AreaCountsPrintedAddUp};
 ghost use Rattle.h3_command.specs.AreaSums.{AreaSumsInParts};
 ghost use Rattle.h3_command.specs.Join.{CellsGetTheirNames, NamesAreOfRows, NamesDiffer, OneNameEach, OthersGetNone};
+ghost use Rattle.h3_command.specs.ParentSums.{ParentSumsPrintedAddUp};
+ghost use Rattle.h3_command.specs.Parents.{ParentsPrintedOnce};
 ghost use Rattle.h3_command.specs.SumAnswers.{AreaSumsPrintedAddUp};
 ghost use Rattle.h3_command.specs.ZoneSums.{ZoneSumsPrintedAddUp};
 ghost use Rattle.h3_rows.specs.Areas.{NamesStandOnce};
 ghost use Rattle.h3_command.specs.NewColumns.{AnswersAreWords, ErrorNamesAreFields, ErrorNamesAreKept, NamesAreKept, RowsStandOnce, TitlesAreFields, WordPairsAreKept, WordPairsAreUncut, WordsAreFields, WordsAreKept};
 
+use h3_index::laws::numbers_are_unique;
 use h3_numbers::laws::totals_are_lawful;
 use h3_regions::laws::{areas_are_lawful, counts_add_up};
 use h3_rows::laws::{answers_stand_beside, areas_divide_cells};
@@ -78,5 +81,15 @@ pub fn zone_sums_add_up()
     ensures { ZoneSumsPrintedAddUp }
 {
     counts_add_up();
+    totals_are_lawful();
+}
+
+/// Each ancestor in a list is printed once, in ascending order, with a count; the counts add up to the number of
+/// cells, and those of the parts of a list to those of the whole. The same of the sums of numbers.
+pub fn parents_add_up()
+    ensures counts { ParentsPrintedOnce }
+    ensures sums { ParentSumsPrintedAddUp }
+{
+    numbers_are_unique();
     totals_are_lawful();
 }

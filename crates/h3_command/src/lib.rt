@@ -20,6 +20,8 @@ pub mod laws;
 mod listed;
 mod long;
 mod overlap_tally;
+mod parent_sums;
+mod parents;
 mod per_index;
 mod plan;
 mod required;

@@ -4,17 +4,42 @@ ghost use Rattle.std.specs.Prelude.{◌≡◌, List, IfOk, IfErr};
 ghost use Rattle.h3_index.specs.Cell.{Address};
 ghost use Rattle.h3_lines.specs.Answer.{Answer};
 ghost use Rattle.h3_command.specs.Listed.{GivesCells, RefusesCells, RefusesNumbered};
-ghost use Rattle.h3_command.specs.Rows.{list_form};
+ghost use Rattle.h3_command.specs.Rows.{list_form, list_form_as};
 ghost use Rattle.h3_command.specs.Run.{EndsList, EndsNumberedList, WritesUnlessMemory};
+ghost use Rattle.h3_lines.specs.List.{itself};
 ghost use Rattle.h3_lines.specs.Reads.{source_use};
 ghost use Rattle.h3_lines.specs.Write.{sink_use};
 
 use h3_index::Cell;
-use h3_lines::{CellJob, RunError, read_cells, take_cells};
+use h3_lines::{CellFunction, CellJob, Itself, RunError, read_cells, take_cells_as};
 use h3_requests::RowOptions;
-use h3_rows::take_row_cells;
+use h3_rows::{take_row_cells, take_row_cells_as};
 use h3_streams::{Sink, Source};
 use std::alloc::Global;
+
+/// Has a job take what a function says for the cells of a list: those on its lines, or those of its rows. An
+/// error of either is reported with its line.
+pub(crate) fn take_listed_as<F: CellFunction + Drop, V: CellJob + Drop, R: Source>(
+    alloc: Global,
+    function: F,
+    job: V,
+    rows: &Option<RowOptions>,
+    input: &mut R,
+) -> Result<V, RunError>
+    requires { V.count job ≡ 0 }
+    ensures taken { IfOk result (λ after. (cells : List Address)
+        × GivesCells (F.says function) (list_form_as (F.says function) rows.now)
+        (source_use R.left R.has_failed input.old input.new) cells
+        × V.taken job cells after) }
+    ensures refused { IfErr result (RefusesNumbered (F.says function)
+        (list_form_as (F.says function) rows.now)
+        (source_use R.left R.has_failed input.old input.new)) }
+{
+    match rows {
+        None => take_cells_as(alloc, function, job, input),
+        Some(options) => take_row_cells_as(alloc, function, job, options, input),
+    }
+}
 
 /// Has the cells of a list taken: those on its lines, or those of its rows. An error of either is
 /// reported with its line.
@@ -26,15 +51,12 @@ pub(crate) fn take_listed<V: CellJob + Drop, R: Source>(
 ) -> Result<V, RunError>
     requires { V.count job ≡ 0 }
     ensures taken { IfOk result (λ after. (cells : List Address)
-        × GivesCells (list_form rows.now) (source_use R.left R.has_failed input.old input.new) cells
+        × GivesCells itself (list_form rows.now) (source_use R.left R.has_failed input.old input.new) cells
         × V.taken job cells after) }
-    ensures refused { IfErr result (RefusesNumbered (list_form rows.now)
+    ensures refused { IfErr result (RefusesNumbered itself (list_form rows.now)
         (source_use R.left R.has_failed input.old input.new)) }
 {
-    match rows {
-        None => take_cells(alloc, job, input),
-        Some(options) => take_row_cells(alloc, job, options, input),
-    }
+    take_listed_as(alloc, Itself, job, rows, input)
 }
 
 /// Reads the cells of a list: those on its lines, or those of its rows. An error of either is
@@ -44,9 +66,9 @@ pub(crate) fn read_numbered<R: Source>(
     rows: &Option<RowOptions>,
     input: &mut R,
 ) -> Result<Vec<Cell>, RunError>
-    ensures cells { IfOk result (λ cells. GivesCells (list_form rows.now)
+    ensures cells { IfOk result (λ cells. GivesCells itself (list_form rows.now)
         (source_use R.left R.has_failed input.old input.new) cells.items) }
-    ensures refused { IfErr result (RefusesNumbered (list_form rows.now)
+    ensures refused { IfErr result (RefusesNumbered itself (list_form rows.now)
         (source_use R.left R.has_failed input.old input.new)) }
 {
     take_listed(alloc, Vec::new(alloc), rows, input)
@@ -58,7 +80,7 @@ fn read_listed<R: Source>(
     rows: &Option<RowOptions>,
     input: &mut R,
 ) -> Result<Vec<Cell>, RunError>
-    ensures cells { IfOk result (λ cells. GivesCells (list_form rows.now)
+    ensures cells { IfOk result (λ cells. GivesCells itself (list_form rows.now)
         (source_use R.left R.has_failed input.old input.new) cells.items) }
     ensures refused { IfErr result (RefusesCells (list_form rows.now)
         (source_use R.left R.has_failed input.old input.new)) }
@@ -93,7 +115,7 @@ pub(crate) fn answer_whole_numbered<R: Source, W: Sink, F: ListFunction + Drop>(
     input: &mut R,
     out: &mut W,
 ) -> Result<(), RunError>
-    ensures { EndsNumberedList (list_form rows.now) (F.answer_of function)
+    ensures { EndsNumberedList itself (list_form rows.now) (F.answer_of function)
         (source_use R.left R.has_failed input.old input.new) result
         (sink_use W.taken W.has_failed out.old out.new) }
 {

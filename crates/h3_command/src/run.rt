@@ -1,7 +1,7 @@
 //! Running a command.
 
 ghost use Rattle.std.specs.Prelude.{◌≡◌, false, true};
-ghost use Rattle.h3_lines.specs.Reads.{source_use};
+ghost use Rattle.h3_lines.specs.Reads.{SourceUse, source_use};
 ghost use Rattle.h3_lines.specs.Write.{sink_use};
 ghost use Rattle.h3_rows.specs.Areas.{NamesStandOnce};
 ghost use Rattle.h3_rows.specs.Laws.{FieldsAreKept, HeaderStands, MarksAreKept, OutputReadsBack, RowsAreWhole, RowsGiveBack, RowsStand, RowsStandUntil};
@@ -9,10 +9,12 @@ ghost use Rattle.h3_command.specs.AreaCounts.{AreaCountsPrintedAddUp};
 ghost use Rattle.h3_command.specs.AreaSums.{AreaSumsInParts};
 ghost use Rattle.h3_command.specs.SumAnswers.{AreaSumsPrintedAddUp};
 ghost use Rattle.h3_requests.specs.Rows.{is_counted_if};
-ghost use Rattle.h3_command.specs.Answer.{area_counts_request, reads_list, reads_table, request, request_of, summed, zone_counts_request};
+ghost use Rattle.h3_command.specs.Answer.{area_counts_request, parents_request, reads_list, reads_table, request, request_of, summed, zone_counts_request};
 ghost use Rattle.h3_command.specs.Files.{CountsPrintedAddUp};
 ghost use Rattle.h3_command.specs.Join.{CellsGetTheirNames, NamesAreOfRows, NamesDiffer, OneNameEach, OthersGetNone};
 ghost use Rattle.h3_command.specs.NewColumns.{AnswersAreWords, ErrorNamesAreFields, ErrorNamesAreKept, NamesAreKept, RowsStandOnce, TitlesAreFields, WordPairsAreKept, WordPairsAreUncut, WordsAreFields, WordsAreKept};
+ghost use Rattle.h3_command.specs.ParentSums.{ParentSumsPrintedAddUp};
+ghost use Rattle.h3_command.specs.Parents.{ParentsPrintedOnce};
 ghost use Rattle.h3_command.specs.Run.{Ends, Runs};
 ghost use Rattle.h3_command.specs.ZoneSums.{ZoneSumsPrintedAddUp};
 
@@ -27,8 +29,10 @@ use crate::file_query::answer_over_file;
 use crate::files::Combination::*;
 use crate::laws::{
     answers_are_fields, area_counts_add_up, area_sums_add_up, cells_get_their_names,
-    zone_sums_add_up,
+    parents_add_up, zone_sums_add_up,
 };
+use crate::parent_sums::sum_by_parents;
+use crate::parents::count_by_parents;
 use crate::per_index::write_answer_for;
 use crate::plan::{Plan, plan_of};
 use crate::rows::answer_function;
@@ -92,6 +96,26 @@ fn count_by_zones<R: Source, T: Source, W: Sink>(
             sum_over_zones(alloc, &tables.file, list, field, input, table, out)
         }
         _ => answer_over_file(alloc, Counts, tables, input, table, out),
+    }
+}
+
+/// Counts the cells of a list by their ancestors at a resolution, and adds up the numbers in a field of its
+/// rows, if it has rows, and that is asked.
+fn count_in_parents<R: Source, W: Sink>(
+    alloc: Global,
+    res: i32,
+    tables: &Tables,
+    input: &mut R,
+    out: &mut W,
+) -> Result<(), RunError>
+    ensures { (table : SourceUse) → Ends
+        (parents_request res tables.now.list (summed tables.now.list tables.now.sum))
+        (source_use R.left R.has_failed input.old input.new) table result
+        (sink_use W.taken W.has_failed out.old out.new) }
+{
+    match (&tables.list, &tables.sum) {
+        (Some(list), Some(field)) => sum_by_parents(alloc, res, list, field, input, out),
+        _ => count_by_parents(alloc, res, &tables.list, input, out),
     }
 }
 
@@ -159,6 +183,7 @@ fn perform_over_list<R: Source, T: Source, W: Sink>(
         UncompactCells { res } => answer_lists(alloc, UncompactList { res }, tables, input, out),
         UncompactCellsSize { res } => uncompact_cells_size(alloc, res, rows, input, out),
         UniteCells => answer_numbered_lists(alloc, UniteList, tables, input, out),
+        CountCellsInParents { res } => count_in_parents(alloc, res, tables, input, out),
         _ => run_file_then_list(alloc, command, tables, input, table, out),
     }
 }
@@ -228,6 +253,10 @@ pub fn run_over<R: Source, T: Source, W: Sink, E: Sink>(
     // The same of the counts and sums of zones without names.
     ensures zone_sums { ZoneSumsPrintedAddUp }
 
+    // The same of the counts and sums by ancestors, of which each is printed once, in ascending order.
+    ensures parents { ParentsPrintedOnce }
+    ensures parent_sums { ParentSumsPrintedAddUp }
+
     // Laws, whatever the rows: each stands in the output with the answers to its own cell, up to the row
     // that ends the answer, and the rows are the list again, as are the fields of a row without the new
     // one. A header stands whole before the new names. Read again, the output has these rows and no
@@ -273,6 +302,7 @@ pub fn run_over<R: Source, T: Source, W: Sink, E: Sink>(
     area_counts_add_up();
     area_sums_add_up();
     zone_sums_add_up();
+    parents_add_up();
     let ending = perform(alloc, command, tables, input, table, out);
     report(err, ending)
 }

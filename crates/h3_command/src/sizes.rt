@@ -5,6 +5,7 @@ ghost use Rattle.std.specs.Prelude.{◌≡◌, ◌≤◌, ◌/◌, ◌^◌, fals
 ghost use Rattle.h3_index.specs.Cell.{Address};
 ghost use Rattle.h3_index.specs.Count.{resolution_of};
 ghost use Rattle.h3_lines.specs.Answer.{number_line, printed};
+ghost use Rattle.h3_lines.specs.List.{itself};
 ghost use Rattle.h3_lines.specs.Reads.{source_use};
 ghost use Rattle.h3_lines.specs.Write.{Writes, sink_use};
 ghost use Rattle.h3_functions.specs.Sets.{uncompact_cells_size};
@@ -94,7 +95,7 @@ pub(crate) fn uncompact_cells_size<R: Source, W: Sink>(
     input: &mut R,
     out: &mut W,
 ) -> Result<(), RunError>
-    ensures { EndsNumberedList (list_form rows.now)
+    ensures { EndsNumberedList itself (list_form rows.now)
         (λ cells. printed number_line (uncompact_cells_size res cells))
         (source_use R.left R.has_failed input.old input.new) result
         (sink_use W.taken W.has_failed out.old out.new) }

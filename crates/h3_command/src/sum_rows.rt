@@ -63,7 +63,7 @@ fn put_end(block: &mut [u8; BLOCK], at: usize, separator: u8, sum: Sum) -> usize
 
 /// Puts the row of a name and a sum after the bytes held back in a block, which end at `end`, and returns
 /// where they end then.
-fn put_row<W: Sink>(
+pub(crate) fn put_row<W: Sink>(
     out: &mut W,
     block: &mut [u8; BLOCK],
     end: usize,
@@ -84,7 +84,7 @@ fn put_row<W: Sink>(
 }
 
 /// Puts the row of the titles, if there are any, into an empty block, and returns where it ends.
-fn put_titles<W: Sink>(
+pub(crate) fn put_titles<W: Sink>(
     out: &mut W,
     block: &mut [u8; BLOCK],
     separator: u8,

@@ -13,7 +13,7 @@ use h3_index::Cell;
 use h3_numbers::laws::totals_are_lawful;
 use h3_numbers::{Number, Sum};
 use h3_regions::laws::areas_are_lawful;
-use h3_regions::{ApartAreas, Areas};
+use h3_regions::{ApartAreas, Areas, TabledZones};
 
 /// Areas in which cells are looked up, one after another.
 pub(crate) trait FindAreas {
@@ -33,10 +33,11 @@ pub(crate) trait FindAreas {
         ensures room { room self.new ≡ room self.old };
 }
 
-/// Areas of which no two overlap. A cell's is looked for from where that of the last one was found.
+/// Areas of which no two overlap. A cell's is looked for from where that of the last one was found, or by a table.
 #[derive(Drop)]
 pub(crate) struct Apart<'a> {
     pub(crate) areas: ApartAreas<'a>,
+    pub(crate) tabled: TabledZones<'a>,
     pub(crate) place: usize,
 }
 
@@ -46,6 +47,7 @@ impl<'a> FindAreas for Apart<'a> {
     ghost room = { λ f. 1 };
 
     fn find(&mut self, cell: Cell, numbers: &mut [u32]) -> usize {
+        self.place = self.tabled.look_for(cell.raw(), self.place);
         match self.areas.area_near(cell, &mut self.place) {
             Some(number) => {
                 numbers[0] = number;

@@ -21,13 +21,13 @@ ghost use Rattle.h3_command.specs.ZoneSums.{zone_sums_answer, zones_have_header}
 ghost use Rattle.h3_command.specs.ZoneTally.{placed, sums_of_zones, texts_in, zone_texts};
 
 use crate::area_sums::sum_found;
-use crate::files::{read_file, slots_for};
+use crate::files::{read_file, slots_for, table_of};
 use crate::sum_rows::{RowNames, SumForm};
 use crate::sum_tally::Apart;
 use h3_index::{Cell, index_bytes};
 use h3_lines::{CellFile, Fault, RunError};
 use h3_regions::laws::{areas_are_lawful, zones_are_lawful};
-use h3_regions::{ApartAreas, order_by_number};
+use h3_regions::{ApartAreas, TabledZones, Zones, order_by_number};
 use h3_requests::{CellField, RowOptions};
 use h3_set::laws::coverages_decide_lists;
 use h3_streams::{Sink, Source};
@@ -161,7 +161,13 @@ fn sum_zones<R: Source, W: Sink>(
     let form = zone_form(file, list);
     match ApartAreas::of(&mut pairs, &mut slots) {
         Ok(areas) => {
-            let finder = Apart { areas, place: 0 };
+            let zones = Zones::over(areas.cells());
+            let places = table_of(alloc, &zones)?;
+            let finder = Apart {
+                areas,
+                tabled: TabledZones::over(&zones, &places),
+                place: 0,
+            };
             sum_found(alloc, &form, list, field, &texts, finder, 1, input, out)
         }
         Err(_) => unreachable!(),

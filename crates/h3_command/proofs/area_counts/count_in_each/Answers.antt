@@ -10,6 +10,7 @@ use Rattle.h3_lines.specs.Write.{Writes, sink_use}
 use Rattle.h3_lines.specs.declared.run_error.Fault.TheVariants.{Memory}
 use Rattle.h3_lines.specs.declared.run_error.RunError.TheVariants.{Fault}
 use Rattle.h3_rows.specs.Areas.{names_in, span_in}
+use Rattle.h3_lines.specs.List.{itself}
 use Rattle.h3_command.specs.AreaCounts.{area_counts, counts_table, has_header}
 use Rattle.h3_command.specs.AreaTally.{named_counts}
 use Rattle.h3_command.specs.OverlapTally.{AreCountsByAreas}
@@ -62,7 +63,7 @@ returns-in_err-tally g c =
     λ cells. written (counts_table options.table.rows.separator title
     (area_counts (string_bytes options.none) names c.args.areas cells)) in
     rw (p.1, p.2)
-    (numbered_unanswered (list_form list) about input _ out c.in_err-tally.ensures.refused (Keeps-refl _, refl))
+    (numbered_unanswered itself (list_form list) about input _ out c.in_err-tally.ensures.refused (Keeps-refl _, refl))
 
 pub returns : goal.returns
 returns g c =
@@ -96,4 +97,4 @@ returns g c =
     let answered =
     subst (λ r. Writes
     (written (counts_table options.table.rows.separator title r)) c.write_area_counts.result out) rows wrote in
-    numbered_ends (list_form list) about cells input _ out gives (inl answered)
+    numbered_ends itself (list_form list) about cells input _ out gives (inl answered)

@@ -6,6 +6,7 @@ use Rattle.h3_lines.specs.Write.{sink_use}
 use Rattle.h3_rows.specs.Named.{names_table}
 use Rattle.h3_command.specs.AreaCounts.{area_counts_answer}
 use Rattle.h3_command.specs.Rows.{list_form}
+use Rattle.h3_lines.specs.List.{itself}
 use Rattle.h3_command.specs.Run.{EndsNumberedList}
 use Rattle.h3_command.proofs.AreasCounted.{numbered_below}
 use Rattle.h3_command.proofs.AreasRead.{ends_judged}
@@ -31,6 +32,6 @@ returns g c =
     let out = sink_use g.W.Sink.taken g.W.Sink.has_failed c.args.out.now c.count_areas.new.out in
     let options = c.args.options.now in
     let list = c.args.list.now in
-    ends_judged options.overlapping (names_table options.table) (λ entries. EndsNumberedList (list_form list)
+    ends_judged options.overlapping (names_table options.table) (λ entries. EndsNumberedList itself (list_form list)
     (area_counts_answer options list entries) input c.count_areas.result out)
     bytes entries input file c.count_areas.result out held reads (c.count_areas.ensures entries holds)

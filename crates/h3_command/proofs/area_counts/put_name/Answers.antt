@@ -1,8 +1,8 @@
-use Rattle.std.proofs.Common.{◌≡◌, ◌<◌, ◌+◌, ◌∷◌, [], ◌++◌, ℕ, List, length, take, set, arith, length-append, ap, sym}
+use Rattle.std.proofs.Common.{◌≡◌, ◌<◌, ◌∷◌, [], ◌++◌, ℕ, List, length, take, set, arith, length-append, ap, sym}
 use Rattle.std.proofs.lemmas.List.{take_more_set}
 use Rattle.std.proofs.lemmas.Result.{err_from_is_err_and}
 use Rattle.h3_lines.specs.Answering.{Moves}
-use Rattle.h3_lines.specs.EachLaws.{beginning_longer, moves_all, moves_none, moves_put, moves_then, push_then}
+use Rattle.h3_lines.specs.EachLaws.{beginning_longer, moves_all, moves_then, push_then}
 use Rattle.h3_command.proofs.area_counts.put_name.Goals as goal
 
 pub returns-in_err-write_all-clause-err : goal.returns-in_err-write_all-clause-err

@@ -1,5 +1,4 @@
-use Rattle.std.proofs.Common.{◌≡◌, ◌∙◌, ap, arith, get_or, length, replicate, subst, sym}
-use Rattle.std.specs.Prelude.{pos}
+use Rattle.std.proofs.Common.{◌≡◌, ◌∙◌, ap, arith, get_or, length, replicate}
 use Rattle.std.proofs.lemmas.List.{get_or-replicate, length-replicate}
 use Rattle.h3_numbers.specs.Sum.{sum_count, sum_units}
 use Rattle.h3_numbers.specs.declared.sum.Sum.{Sum}

@@ -1,7 +1,3 @@
-use Rattle.std.proofs.Common.{subst, sym}
-use Rattle.h3_lines.specs.Reads.{source_use}
-use Rattle.h3_lines.specs.Write.{sink_use}
-use Rattle.h3_command.specs.AreaTable.{EndsWithAreas}
 use Rattle.h3_command.proofs.areas.answer_areas.Goals as goal
 
 pub returns-then-options : goal.returns-then-options

@@ -1,4 +1,4 @@
-use Rattle.std.proofs.Common.{◌≡◌, ◌<◌, [], ℕ, List, Option, Ok, Err, ap, arith, get_or, length, option_map, refl, rules, subst, sym, ◌∙◌}
+use Rattle.std.proofs.Common.{◌≡◌, ◌<◌, ℕ, List, Err, ap, arith, get_or, length, option_map, refl, rules, subst, sym, ◌∙◌}
 use Rattle.std.proofs.KnownBytes.{Keeps-refl}
 use Rattle.std.proofs.lemmas.List.{length-map}
 use Rattle.std.specs.List.{range_with_len}
@@ -6,8 +6,8 @@ use Rattle.h3_lines.specs.Write.{Writes, sink_use}
 use Rattle.h3_lines.specs.declared.run_error.AnswerError.TheVariants.{AtRow}
 use Rattle.h3_lines.specs.declared.run_error.RowError.TheVariants.{Call}
 use Rattle.h3_lines.specs.declared.run_error.RunError.TheVariants.{Error}
-use Rattle.h3_command.specs.By.{all_or_error, lists_answer, lists_of, title_row}
-use Rattle.h3_command.specs.ByValue.{AreByValue, AreMade, IsFirstError, part_of}
+use Rattle.h3_command.specs.By.{all_or_error, lists_of, title_row}
+use Rattle.h3_command.specs.ByValue.{AreByValue, part_of}
 use Rattle.h3_rows.specs.Areas.{names_in, span_in}
 use Rattle.h3_command.proofs.ListTexts.{lists_made, lists_refused}
 use Rattle.h3_command.proofs.ValueRows.{error_written}

@@ -1,4 +1,4 @@
-use Rattle.std.proofs.Common.{◌≡◌, ◌++◌, [], ℕ, List, Option, get_or, length, option_map, take}
+use Rattle.std.proofs.Common.{◌++◌, [], ℕ, List, get_or, length, option_map, take}
 use Rattle.std.proofs.lemmas.Result.{err_from_is_err_and}
 use Rattle.std.specs.List.{flat_map, range_with_len}
 use Rattle.h3_lines.specs.EachLaws.{moves_then, push_more, push_then}

@@ -1,6 +1,5 @@
-use Rattle.std.proofs.Common.{◌≡◌, ◌+◌, ◌-◌, ◌<◌, ◌≤◌, ℕ, List, Ok, Err, arith, ap, get_or, length, sym, take, drop, ◌∙◌}
+use Rattle.std.proofs.Common.{◌≡◌, ◌-◌, ◌<◌, ℕ, arith, ap, get_or, length, sym, drop, ◌∙◌}
 use Rattle.std.proofs.lemmas.List.{length-drop, length-take-le}
-use Rattle.h3_index.specs.Cell.{Address}
 use Rattle.h3_command.specs.ByValue.{part_of}
 use Rattle.h3_command.proofs.MakingLists.{one_made, own_cells}
 use Rattle.h3_command.proofs.by_lists.make_lists.Goals as goal

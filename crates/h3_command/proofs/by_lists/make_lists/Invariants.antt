@@ -1,4 +1,3 @@
-use Rattle.std.proofs.Common.{length}
 use Rattle.h3_command.proofs.MakingLists.{IsMaking}
 use Rattle.h3_command.proofs.by_lists.make_lists.Given as goal
 

@@ -1,4 +1,4 @@
-use Rattle.std.proofs.Common.{◌++◌, ◌∷◌, [], ◌∙◌, ap, append_assoc, subst, take}
+use Rattle.std.proofs.Common.{subst, take}
 use Rattle.std.proofs.lemmas.Result.{err_from_is_err_and}
 use Rattle.h3_lines.specs.Answer.{cell_line}
 use Rattle.h3_lines.specs.Answering.{FailsPush, Moves}

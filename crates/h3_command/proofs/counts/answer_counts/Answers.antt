@@ -7,6 +7,7 @@ use Rattle.std.proofs.KnownBytes.{Keeps-refl}
 use Rattle.std.proofs.lemmas.Result.{err_from_is_err_and}
 use Rattle.h3_lines.specs.Write.{sink_use}
 use Rattle.h3_regions.specs.Counting.{AreCounts}
+use Rattle.h3_lines.specs.List.{itself}
 use Rattle.h3_command.specs.Files.{counts_answer}
 use Rattle.h3_command.specs.Rows.{list_form}
 use Rattle.h3_command.proofs.Endings.{list_unread}
@@ -18,7 +19,7 @@ returns-in_err-tally g c =
     let p = err_from_is_err_and c.from_residual-in_err-tally.result c.from_residual-in_err-tally.ensures.1 in
     let input = source_use g.R.Source.left g.R.Source.has_failed c.args.input.now c.take_listed.new.input in
     let out = sink_use g.W.Sink.taken g.W.Sink.has_failed c.args.out.now c.args.out.now in
-    rw (p.1, p.2) (numbered_unanswered (list_form c.args.rows.now)
+    rw (p.1, p.2) (numbered_unanswered itself (list_form c.args.rows.now)
     (counts_answer c.args.zones.now) input _ out c.in_err-tally.ensures.refused (Keeps-refl _, refl))
 
 pub returns-in_err-counts : goal.returns-in_err-counts
@@ -50,4 +51,4 @@ returns g c =
     let told : AreCounts zones cells c.in_ok-tally.tally.counts.items others = rw c.over.ensures at taken.1 [] start in
     let wrote = rw (c.over-in_order.ensures, c.deref-2.ensures.value) at c.write_counts.ensures in
     let input = source_use g.R.Source.left g.R.Source.has_failed c.args.input.now c.take_listed.new.input in
-    numbered_ends (list_form c.args.rows.now) (counts_answer zones) cells input _ out gives (inl (wrote cells told))
+    numbered_ends itself (list_form c.args.rows.now) (counts_answer zones) cells input _ out gives (inl (wrote cells told))

@@ -5,6 +5,7 @@ use Rattle.h3_lines.specs.Write.{sink_use}
 use Rattle.h3_command.specs.Combination.{combined_answer}
 use Rattle.h3_command.specs.Files.{covered_answer}
 use Rattle.h3_command.specs.Rows.{list_form, rows_form}
+use Rattle.h3_lines.specs.List.{itself}
 use Rattle.h3_command.specs.Run.{EndsLines, EndsNumberedList}
 use Rattle.h3_command.proofs.Combined.{counts_alike, zones_alike}
 use Rattle.h3_command.proofs.file_query.answer_query.Goals as goal
@@ -19,7 +20,7 @@ pub returns-in-Combined : goal.returns-in-Combined
 returns-in-Combined g c =
     let input = source_use g.R.Source.left g.R.Source.has_failed c.args.input.now c.answer_whole_numbered.new.input in
     let out = sink_use g.W.Sink.taken g.W.Sink.has_failed c.args.out.now c.answer_whole_numbered.new.out in
-    rw c.in-Combined.is (λ listed same. subst (λ l. EndsNumberedList (list_form c.args.rows.now)
+    rw c.in-Combined.is (λ listed same. subst (λ l. EndsNumberedList itself (list_form c.args.rows.now)
     (combined_answer c.in-Combined.kind l) input
     c.answer_whole_numbered.result out) same c.answer_whole_numbered.ensures)
 
@@ -52,5 +53,5 @@ returns-in-Counts g c =
     let alike =
     counts_alike items listed (any.number items listed zones.apart zones.valid back)
     (λ x. any.covered items listed x back) in
-    subst (λ answer. EndsNumberedList (list_form c.args.rows.now) answer input c.answer_counts.result out) alike
+    subst (λ answer. EndsNumberedList itself (list_form c.args.rows.now) answer input c.answer_counts.result out) alike
     c.answer_counts.ensures)

@@ -7,6 +7,7 @@ use Rattle.h3_lines.specs.Answer.{number_line, printed}
 use Rattle.h3_lines.specs.Reads.{source_use}
 use Rattle.h3_lines.specs.Write.{sink_use}
 use Rattle.h3_functions.specs.Sets.{uncompact_cells_size}
+use Rattle.h3_lines.specs.List.{itself}
 use Rattle.h3_command.specs.Rows.{list_form}
 use Rattle.h3_command.specs.Sizes.{IsSizeOf}
 use Rattle.h3_command.proofs.ListedCells.{numbered_ends, numbered_unanswered}
@@ -21,7 +22,7 @@ returns-in_err-size g c =
     let p = err_from_is_err_and c.from_residual.result c.from_residual.ensures.1 in
     let input = source_use g.R.Source.left g.R.Source.has_failed c.args.input.now c.take_listed.new.input in
     let out = sink_use g.W.Sink.taken g.W.Sink.has_failed c.args.out.now c.args.out.now in
-    rw (p.1, p.2) (numbered_unanswered (list_form c.args.rows.now)
+    rw (p.1, p.2) (numbered_unanswered itself (list_form c.args.rows.now)
     (λ cells. printed number_line (uncompact_cells_size c.args.res cells)) input _ out c.in_err-size.ensures.refused
     (Keeps-refl _, refl))
 
@@ -41,6 +42,6 @@ returns g c =
     ∙ ap (λ (x : ℤ). uncompact_cells_size x cells) same in
     let out = sink_use g.W.Sink.taken g.W.Sink.has_failed c.args.out.now c.write_result.new.out in
     let input = source_use g.R.Source.left g.R.Source.has_failed c.args.input.now c.take_listed.new.input in
-    numbered_ends (list_form c.args.rows.now)
+    numbered_ends itself (list_form c.args.rows.now)
     (λ cells. printed number_line (uncompact_cells_size res cells)) cells input _ out gives
     (inl (rw told at c.write_result.ensures))

@@ -1,11 +1,11 @@
-use Rattle.std.proofs.Common.{◌≡◌, ◌+◌, ◌<◌, ◌++◌, [], ap, append-nil, arith, get_or, length, map, subst, sym, take, ◌∙◌}
+use Rattle.std.proofs.Common.{◌≡◌, ◌++◌, append-nil, arith, length, map, subst, sym, take}
 use Rattle.std.proofs.lemmas.Result.{err_from_is_err_and}
 use Rattle.std.specs.List.{flat_map, range_with_len}
 use Rattle.h3_lines.specs.Answering.{FailsPush, Moves}
 use Rattle.h3_lines.specs.EachLaws.{moves_none}
 use Rattle.h3_lines.specs.Write.{sink_use}
 use Rattle.h3_command.specs.SumRows.{named_row, values_of}
-use Rattle.h3_command.specs.SumTables.{SumRow, sum_row}
+use Rattle.h3_command.specs.SumTables.{sum_row}
 use Rattle.h3_command.proofs.RowsPut.{line_fails, line_put, row_there}
 use Rattle.h3_command.proofs.sum_rows.put_rows.Goals as goal
 

@@ -1,4 +1,4 @@
-use Rattle.std.proofs.Common.{◌≡◌, ◌++◌, ◌∷◌, [], ap, codes, ℕ, List, IfOk, OnErr, Ok, Err, Option, append_assoc, subst, take, ◌∙◌}
+use Rattle.std.proofs.Common.{◌++◌, ◌∷◌, [], codes, subst, take}
 use Rattle.std.proofs.lemmas.Result.{err_from_is_err_and}
 use Rattle.h3_lines.specs.Answering.{FailsPush, Moves}
 use Rattle.h3_lines.specs.EachLaws.{moves_put, moves_then, push_more, push_then}

@@ -1,6 +1,6 @@
 use Rattle.std.proofs.Common.{arith, take, length}
 use Rattle.std.proofs.lemmas.List.{length-take}
-use Rattle.h3_command.proofs.Summing.{few_next, none_next, places_once, small_places, some_next}
+use Rattle.h3_command.proofs.Summing.{none_next, places_once, small_places, some_next}
 use Rattle.h3_command.proofs.sum_tally.add_amount.Goals as goal
 
 pub add_to_each-requires-clause-small : goal.add_to_each-requires-clause-small

@@ -45,6 +45,14 @@ returns-in_err-slots g c =
     rw (p.1, p.2, c.in_err-slots.ensures.err)
     (entries_unread (table_of c.args.list.now c.args.field.now Number) _ input out refl refl (Keeps-refl _, refl))
 
+pub returns-in_err-places-in-Ok : goal.returns-in_err-places-in-Ok
+returns-in_err-places-in-Ok g c =
+    let p = err_from_is_err_and c.from_residual-in_err-places-in-Ok.result c.from_residual-in_err-places-in-Ok.ensures.1 in
+    let input = source_use g.R.Source.left g.R.Source.has_failed c.args.input.now c.args.input.now in
+    let out = sink_use g.W.Sink.taken g.W.Sink.has_failed c.args.out.now c.args.out.now in
+    rw (p.1, p.2, c.in_err-places-in-Ok.ensures)
+    (entries_unread (table_of c.args.list.now c.args.field.now Number) _ input out refl refl (Keeps-refl _, refl))
+
 pub sum_found-requires-clause-small : goal.sum_found-requires-clause-small
 sum_found-requires-clause-small g c =
     let zones = c.args.zones.now in
