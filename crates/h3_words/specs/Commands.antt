@@ -39,6 +39,7 @@ commands =
     command.AreCoveredCells ∷
     command.CellsToZones ∷
     command.CountCellsInZones ∷
+    command.CountCellsInParents (pos 0) ∷
     command.GridDiskUnsafe None (pos 0) ∷
     command.GridDiskDistancesUnsafe None (pos 0) ∷
     command.GridRingUnsafe None (pos 0) ∷
@@ -202,6 +203,12 @@ call_of command.CountCellsInZones =
       word = codes "countCellsInZones";
       values = [];
       others = zone_options ++ name_options ++ option.Overlapping ∷ sum_options ++ list_options;
+    }
+call_of (command.CountCellsInParents res) =
+    record {
+      word = codes "countCellsInParents";
+      values = Number option.Resolution res ∷ [];
+      others = sum_options ++ list_options;
     }
 call_of (command.GridDiskUnsafe cell k) =
     record {

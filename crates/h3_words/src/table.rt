@@ -368,6 +368,25 @@ macro_rules! commands {
                         h3 countCellsInZones --zones z --zone-column cell --zone-name name --csv < cells",
                     usage: Some("h3 countCellsInZones --zones <zones> < cells"),
                 };
+            (CountCellsInParents { res })
+                { word: "countCellsInParents", options: with_list_options!(Resolution, Sum, SumField) }
+                [lists "countCellsInParents         Count the cells in each ancestor at a resolution"]
+                {
+                    about: "Count the cells on standard input in each of their ancestors at a resolution",
+                    notes: "Each line has an ancestor and its count, ascending. A cell that repeats counts\n\
+                        again. Of rows the answer is a table, under a header if the list has one.\n\
+                        With --sum or --sum-field each row ends with the exact sum of that column over\n\
+                        the cells that it counts; a blank field is 0:\n\
+                        \x20 line 2: sum: not a number               its first bad number, status 1\n\
+                        Errors: 1 not an index, 5 not a valid cell, 4 not a resolution,\n\
+                        12 a resolution finer than the cell's\n\
+                        Example: h3 countCellsInParents -r 4 < cells\n\
+                        Of a CSV file, whose cells are the list:\n\
+                        h3 countCellsInParents -r 4 --csv --column cell < trips.csv\n\
+                        With the sum of a column:\n\
+                        h3 countCellsInParents -r 4 --csv --column cell --sum fare < trips.csv",
+                    usage: Some("h3 countCellsInParents --resolution <resolution> < cells"),
+                };
             (GridDiskUnsafe { cell, k })
                 { word: "gridDiskUnsafe", options: &[Cell, Radius, Table] }
                 [table "gridDiskUnsafe              The cells within a radius of a cell, ring by ring"]
