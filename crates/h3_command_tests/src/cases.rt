@@ -388,7 +388,7 @@ const FIVE: &str = "81083ffffffffff\n8108bffffffffff\n8108fffffffffff\n81093ffff
                     81097ffffffffff\n";
 
 /// Commands on a list.
-pub static LIST_CASES: [Case<'static>; 7] = [
+pub static LIST_CASES: [Case<'static>; 8] = [
     Case {
         command: Command::CompactCells,
         reads: Reads::List(
@@ -438,6 +438,13 @@ pub static LIST_CASES: [Case<'static>; 7] = [
         command: Command::UniteCells,
         reads: Reads::List("85283473fffffff\n8428347ffffffff\n85283473fffffff\n"),
         output: "8428347ffffffff\n",
+        line: "",
+        status: 0,
+    },
+    Case {
+        command: Command::CountCellsInParents { res: 4 },
+        reads: Reads::List("85283473fffffff\n8528340ffffffff\n85283473fffffff\n"),
+        output: "8428341ffffffff 1\n8428347ffffffff 2\n",
         line: "",
         status: 0,
     },

@@ -16,6 +16,8 @@ mod files;
 #[cfg(test)]
 mod lists;
 #[cfg(test)]
+mod parent_counts;
+#[cfg(test)]
 mod plural_faults;
 #[cfg(test)]
 mod plural_flushes;

@@ -43,6 +43,14 @@ fn refused_union<'a>(list: &'a str, line: &'a str) -> Case<'a> {
     }
 }
 
+/// The counts of a list by the ancestors at resolution 4, which is refused with this line.
+fn refused_count<'a>(list: &'a str, line: &'a str) -> Case<'a> {
+    Case {
+        command: Command::CountCellsInParents { res: 4 },
+        ..refused_union(list, line)
+    }
+}
+
 /// Whether the compaction of a list writes its output and ends so, and reads the list to its end.
 fn is_compacted(alloc: Global, case: &Case<'_>) -> bool {
     for most in &PIECES {
@@ -206,6 +214,33 @@ fn a_faulty_line_of_a_union_is_told(rt: HostRuntime) {
         "65 digits",
         union_is_known(rt.alloc(), &long, line, 65),
     );
+}
+
+/// Lists that are not counted by the ancestors at resolution 4, their errors, and the bytes by which they are known.
+static NOT_COUNTED: [(&str, &str, usize); 3] = [
+    (
+        "832834fffffffff\nxyz\n",
+        "line 1: error 12: E_RES_MISMATCH\n",
+        16,
+    ),
+    (
+        "85283473fffffff\n\n832834fffffffff\n85283473fffffff\n",
+        "line 3: error 12: E_RES_MISMATCH\n",
+        33,
+    ),
+    (
+        "85283473fffffff\nxyz\n832834fffffffff\n",
+        "line 2: error 1: E_FAILED\n",
+        20,
+    ),
+];
+
+#[test]
+fn a_coarser_cell_that_is_known_decides_before_a_read_fault(rt: HostRuntime) {
+    for (list, line, bytes) in &NOT_COUNTED {
+        let case = refused_count(list, line);
+        expect(&rt, list, is_known(rt.alloc(), &case, *bytes));
+    }
 }
 
 /// Lists whose last line is not ended, and their compactions or the error.

@@ -10,7 +10,7 @@ use crate::expected::expect_row;
 use h3_fakes::{Faults, FaultySource};
 use h3_index::{Cell, H3Error};
 use h3_lines::{AnswerError, ColumnError, Fault, RowError, RowFault, RunError};
-use h3_numbers::{MAX_SUM_LEN, Sum, write_sum};
+use h3_numbers::{MAX_SUM_LEN, Number, Sum, write_sum};
 use h3_requests::{CellField, RowOptions};
 use h3_rows::{FieldContent, NamedJob, field_number, take_named_cells};
 use std::alloc::Global;
@@ -47,14 +47,20 @@ impl NamedJob for Amounts {
 
     ghost taken = { λ v entries w. ⊤ };
 
-    fn take(&mut self, cell: Option<Cell>, field: &[u8], row: u64) -> Result<(), RunError> {
+    fn take(
+        &mut self,
+        cell: Option<Cell>,
+        field: &[u8],
+        known: Option<Number>,
+        row: u64,
+    ) -> Result<(), RunError> {
         if self.rows.push(row).is_err() {
             return Err(no_memory());
         }
         if cell.is_none() {
             return Ok(());
         }
-        match field_number(true, field) {
+        match known.or(field_number(true, field)) {
             Some(number) => self.sum = self.sum.plus(number),
             None => {}
         }

@@ -1,9 +1,10 @@
 //! Runs commands over streams in fixed arrays, and prints the status of each and what it wrote: a
 //! list of 49 cells that compact to one, one of mixed resolutions, a disk over a table in format 1,
 //! an edge over one in format 2, the resolution of each cell of a list, a list of cells that
-//! overlap, united, the five commands over that list and a file of cells, of a cell that is listed its
-//! children, its disk, and of an edge the cell that it leads to, and the zones of that list over a table
-//! of cells, by themselves and by name, and its counts by these names.
+//! overlap, united, the five commands over that list and a file of cells, its counts by their ancestors, of
+//! a cell that is listed its children, its disk, and of an edge the cell that it leads to, and the zones of
+//! that list over a table of cells, by themselves and by name, and its counts by these names; and rows that
+//! are added up by zones or ancestors, or divided by a field.
 //! `tests/command/memory` refuses each allocation of it in turn.
 #![tactic(auto)]
 
@@ -157,6 +158,17 @@ fn list_tables(areas: Option<AreaOptions>) -> Tables {
     }
 }
 
+/// How a list of rows is read, of which a second field has numbers, beside no file.
+fn sum_tables() -> Tables {
+    Tables {
+        list: Some(row_options()),
+        sum: Some(CellField::Number(1)),
+        by: None,
+        file: None,
+        areas: None,
+    }
+}
+
 /// Runs commands over tables, and prints what they print.
 fn print_tables<W: Write>(alloc: Global, to: &mut W) -> io::Result<()> {
     let zones = Command::CellsToZones;
@@ -170,13 +182,10 @@ fn print_tables<W: Write>(alloc: Global, to: &mut W) -> io::Result<()> {
     print_run(alloc, &zones, &nested, (OVERLAPPING, NESTED), to)?;
     let summed = list_tables(Some(area_options(alloc, false)));
     print_run(alloc, &counts, &summed, (NUMBERED, ROWS), to)?;
-    print_run(
-        alloc,
-        &Command::UniteCells,
-        &list_tables(None),
-        (VALUED, ""),
-        to,
-    )
+    let values = list_tables(None);
+    print_run(alloc, &Command::UniteCells, &values, (VALUED, ""), to)?;
+    let parents = Command::CountCellsInParents { res: 4 };
+    print_run(alloc, &parents, &sum_tables(), (NUMBERED, ""), to)
 }
 
 fn main(rt: HostRuntime) -> io::Result<()> {
@@ -198,6 +207,7 @@ fn main(rt: HostRuntime) -> io::Result<()> {
         (Command::AreCoveredCells, (OVERLAPPING, APART)),
         (Command::CellsToZones, (OVERLAPPING, APART)),
         (Command::CountCellsInZones, (OVERLAPPING, APART)),
+        (Command::CountCellsInParents { res: 4 }, (OVERLAPPING, "")),
         (Command::CellsToChildren { res: 6 }, (ONE, "")),
         (Command::GridDisksUnsafe { k: 1 }, (ONE, file.as_str())),
         (Command::GetDirectedEdgeDestinations, (EDGE, file.as_str())),

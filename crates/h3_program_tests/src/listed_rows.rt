@@ -63,7 +63,7 @@ fn ends_in_pieces(alloc: Global, row: &Row) -> bool {
 }
 
 /// Tables, and what the commands answer about their cells.
-static ANSWERED: [Row; 10] = [
+static ANSWERED: [Row; 14] = [
     // a byte order mark alone leaves the first row empty
     (
         "h3 compactCells --column cell",
@@ -135,6 +135,34 @@ static ANSWERED: [Row; 10] = [
         "",
         0,
     ),
+    (
+        "h3 countCellsInParents -r 4 --csv --column cell",
+        "id,cell\r\n1,85283473fffffff\r\n2,8528340ffffffff\r\n3,\r\n4,85283477fffffff",
+        "cell,count\n8428341ffffffff,1\n8428347ffffffff,2\n",
+        "",
+        0,
+    ),
+    (
+        "h3 countCellsInParents -r 4 --csv --column cell --sum amount",
+        "id,cell,amount\n1,85283473fffffff,1.50\n2,85283477fffffff,2\n3,8528340ffffffff,-0.5\n4,,7\n",
+        "cell,count,amount\n8428341ffffffff,1,-0.5\n8428347ffffffff,2,3.5\n",
+        "",
+        0,
+    ),
+    (
+        "h3 countCellsInParents -r 4 --sum-field 2 --field 1",
+        "85283473fffffff\t1.50\n85283477fffffff\t\n",
+        "8428347ffffffff\t2\t1.5\n",
+        "",
+        0,
+    ),
+    (
+        "h3 countCellsInParents --resolution 4",
+        "85283473fffffff\n85283477fffffff\n8528340ffffffff\n85283473fffffff\n",
+        "8428341ffffffff 1\n8428347ffffffff 3\n",
+        "",
+        0,
+    ),
 ];
 
 #[test]
@@ -146,7 +174,7 @@ fn cells_of_rows_are_answered(rt: HostRuntime) {
 
 /// Tables with an error, and bare lists, of which compaction reports a faulty line without its
 /// number.
-static REFUSED: [Row; 11] = [
+static REFUSED: [Row; 14] = [
     (
         "h3 compactCells --field 1",
         "85283473fffffff\n85283473fffffff\n",
@@ -223,6 +251,27 @@ static REFUSED: [Row; 11] = [
         "",
         "column: not found\n",
         3,
+    ),
+    (
+        "h3 countCellsInParents -r 4 --column cell --sum amount",
+        "cell\tn\n",
+        "",
+        "column: not found\n",
+        3,
+    ),
+    (
+        "h3 countCellsInParents -r 4 --field 1 --sum-field 2",
+        "85283473fffffff\t1\n832834fffffffff\tx\n",
+        "",
+        "line 2: error 12: E_RES_MISMATCH\n",
+        1,
+    ),
+    (
+        "h3 countCellsInParents -r 4 --field 1 --sum-field 2",
+        "85283473fffffff\tx\n832834fffffffff\t1\n",
+        "",
+        "line 1: sum: not a number\n",
+        1,
     ),
 ];
 

@@ -31,6 +31,7 @@ macro_rules! commands {
             (Command::AreCoveredCells, ""),
             (Command::CellsToZones, ""),
             (Command::CountCellsInZones, ""),
+            (Command::CountCellsInParents { res: $res }, "r"),
             (Command::GridDiskUnsafe { cell: $cell, k: $res }, "cr"),
             (Command::GridDiskDistancesUnsafe { cell: $cell, k: $res }, "cr"),
             (Command::GridRingUnsafe { cell: $cell, k: $res }, "cr"),
@@ -63,7 +64,7 @@ macro_rules! commands {
 }
 
 /// The commands of these words.
-static COMMANDS: [(Command, &str); 51] = commands!(Some(1), Some(2), 3, 4);
+static COMMANDS: [(Command, &str); 52] = commands!(Some(1), Some(2), 3, 4);
 
 #[test]
 fn only_the_same_commands_are_equal(rt: HostRuntime) {

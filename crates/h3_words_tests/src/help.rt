@@ -20,7 +20,7 @@ fn asks_for_help(alloc: Global, line: &str) -> bool {
 }
 
 /// Lines that ask for help.
-static HELP: [&str; 30] = [
+static HELP: [&str; 31] = [
     "h3 --help",
     "h3 -h",
     "h3 isValidCell --help",
@@ -38,6 +38,7 @@ static HELP: [&str; 30] = [
     "h3 areCoveredCells -h",
     "h3 cellsToZones --zones z --help",
     "h3 countCellsInZones --help",
+    "h3 countCellsInParents -r 4 --help",
     "h3 gridDiskUnsafe --help",
     "h3 gridDiskDistancesUnsafe -k 1 --help",
     "h3 gridRingUnsafe -h",
@@ -109,7 +110,7 @@ fn refuses_the_version_elsewhere(rt: HostRuntime) {
 }
 
 /// The words that name the commands.
-static COMMAND_WORDS: [&str; 51] = [
+static COMMAND_WORDS: [&str; 52] = [
     "isValidCell",
     "getResolution",
     "getBaseCellNumber",
@@ -134,6 +135,7 @@ static COMMAND_WORDS: [&str; 51] = [
     "areCoveredCells",
     "cellsToZones",
     "countCellsInZones",
+    "countCellsInParents",
     "gridDiskUnsafe",
     "gridDiskDistancesUnsafe",
     "gridRingUnsafe",
@@ -349,7 +351,7 @@ fn help_says_what_a_file_may_be_refused_for(rt: HostRuntime) {
 }
 
 /// How a list is given to each command that reads one.
-static LIST_USAGES: [(&str, &str); 27] = [
+static LIST_USAGES: [(&str, &str); 28] = [
     ("h3 compactCells -h", "Usage: h3 compactCells < cells\n"),
     (
         "h3 uncompactCells -h",
@@ -379,6 +381,10 @@ static LIST_USAGES: [(&str, &str); 27] = [
     (
         "h3 countCellsInZones -h",
         "Usage: h3 countCellsInZones --zones <zones> < cells\n",
+    ),
+    (
+        "h3 countCellsInParents -h",
+        "Usage: h3 countCellsInParents --resolution <resolution> < cells\n",
     ),
     ("h3 areValidCells -h", "Usage: h3 areValidCells < cells\n"),
     (
@@ -443,7 +449,7 @@ static LIST_USAGES: [(&str, &str); 27] = [
 ];
 
 /// Lines that ask for help of a command that reads rows, and what it says of them.
-static ROWS_HELP: [(&str, &str); 37] = [
+static ROWS_HELP: [(&str, &str); 42] = [
     ("h3 cellsToParents --help", "\nRows:\n"),
     ("h3 cellsToParents --help", "--field <number>"),
     ("h3 cellsToParents --help", "--column <column>"),
@@ -520,6 +526,26 @@ static ROWS_HELP: [(&str, &str); 37] = [
         "h3 uniteCells --help",
         "\nh3 uniteCells --csv --column cell --by driver < trips.csv\n",
     ),
+    (
+        "h3 countCellsInParents --help",
+        "\nEach line has an ancestor and its count, ascending. A cell that repeats counts\n\
+        again. Of rows the answer is a table, under a header if the list has one.\n",
+    ),
+    (
+        "h3 countCellsInParents --help",
+        "\nWith --sum or --sum-field each row ends with the exact sum of that column over\n\
+        the cells that it counts; a blank field is 0:\n\
+        \x20 line 2: sum: not a number               its first bad number, status 1\n",
+    ),
+    (
+        "h3 countCellsInParents --help",
+        "\nOf a CSV file, whose cells are the list:\n\
+        h3 countCellsInParents -r 4 --csv --column cell < trips.csv\n\
+        With the sum of a column:\n\
+        h3 countCellsInParents -r 4 --csv --column cell --sum fare < trips.csv\n",
+    ),
+    ("h3 countCellsInParents --help", "\nRows:\n"),
+    ("h3 countCellsInParents --help", "--ragged "),
 ];
 
 #[test]

@@ -5,7 +5,7 @@ use crate::help::help_of;
 use std::alloc::Global;
 
 /// What each command answers, as the list of commands says it, and as its own help does.
-static ABOUT: [(&str, &str, &str); 51] = [
+static ABOUT: [(&str, &str, &str); 52] = [
     (
         "isValidCell",
         "Whether an index is a valid cell",
@@ -125,6 +125,11 @@ static ABOUT: [(&str, &str, &str); 51] = [
         "countCellsInZones",
         "Count the cells in each zone",
         "Count the cells on standard input in each zone, and those in none",
+    ),
+    (
+        "countCellsInParents",
+        "Count the cells in each ancestor at a resolution",
+        "Count the cells on standard input in each of their ancestors at a resolution",
     ),
     (
         "gridDiskUnsafe",
@@ -309,7 +314,7 @@ fn help_says_what_each_command_answers(rt: HostRuntime) {
 }
 
 /// Commands, the forms of their options, and what each is.
-static OPTION_TEXTS: [(&str, &str, &str); 36] = [
+static OPTION_TEXTS: [(&str, &str, &str); 39] = [
     (
         "h3 getResolution -h",
         "-c, --cell <cell>",
@@ -422,6 +427,21 @@ static OPTION_TEXTS: [(&str, &str, &str); 36] = [
     ),
     (
         "h3 countCellsInZones -h",
+        "--sum-field <sum-field>",
+        "With --field: field to add up",
+    ),
+    (
+        "h3 countCellsInParents -h",
+        "-r, --resolution <resolution>",
+        "A resolution, 0 to 15",
+    ),
+    (
+        "h3 countCellsInParents -h",
+        "--sum <sum>",
+        "With a header: column to add up",
+    ),
+    (
+        "h3 countCellsInParents -h",
         "--sum-field <sum-field>",
         "With --field: field to add up",
     ),

@@ -4,7 +4,7 @@ use crate::expected::expect_all;
 use crate::refused_words::first_valid;
 
 /// Lines with a number out of range, an option twice, or an option without what it goes with.
-static INVALID: [&str; 110] = [
+static INVALID: [&str; 121] = [
     "h3 getResolutions --field 0",
     "h3 getResolutions --field 65536",
     "h3 getResolutions --field -1",
@@ -99,6 +99,17 @@ static INVALID: [&str; 110] = [
     "h3 countCellsInZones --zones z --zone-field 1 --zone-name-field 2 --field 1 --sum-field -1",
     "h3 countCellsInZones --zones z --zone-field 1 --zone-name-field 2 --field 1 --sum-field a",
     "h3 countCellsInZones --zones z --zone-field 1 --zone-name-field 2 --field 1 --sum-field 2 --sum-field 2",
+    "h3 countCellsInParents -r 4 --csv",
+    "h3 countCellsInParents -r 4 --sum a",
+    "h3 countCellsInParents -r 4 --field 1 --sum a",
+    "h3 countCellsInParents -r 4 --sum-field 1",
+    "h3 countCellsInParents -r 4 --column a --sum-field 1",
+    "h3 countCellsInParents -r 4 --field 1 --header --sum a --sum-field 2",
+    "h3 countCellsInParents -r 4 --column a --sum b --sum b",
+    "h3 countCellsInParents -r 4 --field 1 --sum-field 0",
+    "h3 countCellsInParents -r 4 --field 1 --sum-field 65536",
+    "h3 countCellsInParents -r 4 --column a --field 1",
+    "h3 countCellsInParents --column a --sum b",
     "h3 uniteCells --by a",
     "h3 compactCells --by-field 1",
     "h3 uncompactCells -r 6 --field 1 --by a",
@@ -124,7 +135,7 @@ fn refuses_options_without_company(rt: HostRuntime) {
 }
 
 /// Lines with an unfit separator or name, a flag with a value, or an option of other commands.
-static UNFIT: [&str; 82] = [
+static UNFIT: [&str; 93] = [
     "h3 cellsToZones --zones z --region-column a",
     "h3 intersectCells --region r --zone-field 1",
     "h3 compactCells --zone-column a",
@@ -150,6 +161,17 @@ static UNFIT: [&str; 82] = [
     "h3 countCellsInZones --zones z --zone-field 1 --zone-name-field 2 --csv --column a --separator . --sum b",
     "h3 countCellsInZones --zones z --zone-field 1 --zone-name-field 2 --field 1 --separator . --sum-field 2",
     "h3 cellsToZones --zones z --column a --sum b",
+    "h3 countCellsInParents -r 4 --column a --sum",
+    "h3 countCellsInParents -r 4 --csv --column a --separator . --sum b",
+    "h3 countCellsInParents -r 4 --field 1 --separator . --sum-field 2",
+    "h3 countCellsInParents -r 4 --column a --as b",
+    "h3 countCellsInParents -r 4 --field 1 --keep-going",
+    "h3 countCellsInParents -r 4 --column a --errors",
+    "h3 countCellsInParents -r 4 --column a --by b",
+    "h3 countCellsInParents -r 4 --column a --none b",
+    "h3 countCellsInParents -r 4 --column a --zone-column b",
+    "h3 countCellsInParents -r 4 --column a --overlapping",
+    "h3 uncompactCellsSize -r 6 --column a --sum b",
     "h3 compactCells --field 1 --sum-field 2",
     "h3 cellsToParents -r 4 --column a --sum b",
     "h3 uniteCells --column a --by",

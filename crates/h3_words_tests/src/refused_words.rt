@@ -68,7 +68,7 @@ fn refuses_other_words(rt: HostRuntime) {
 }
 
 /// Invalid lines of commands over a region or zones, and of options that other commands have.
-static OTHER_WORDS_OF_REGIONS_AND_ZONES: [&str; 27] = [
+static OTHER_WORDS_OF_REGIONS_AND_ZONES: [&str; 38] = [
     "h3 intersectCells",
     "h3 intersectCells --region",
     "h3 intersectCells region",
@@ -93,6 +93,17 @@ static OTHER_WORDS_OF_REGIONS_AND_ZONES: [&str; 27] = [
     "h3 countCellsInZones --region r",
     "h3 countCellsInZones --zones z --zones=z",
     "h3 countCellsInZones --zones z -r 4",
+    "h3 countCellsInParents",
+    "h3 countCellsInParents -r",
+    "h3 countCellsInParents -r four",
+    "h3 countCellsInParents -r -1",
+    "h3 countCellsInParents -r 2147483648",
+    "h3 countCellsInParents -r 4 -r 4",
+    "h3 countCellsInParents -r 4 --zones z",
+    "h3 countCellsInParents -r 4 --region r",
+    "h3 countCellsInParents -r 4 -c 0",
+    "h3 countCellsInParents -r 4 cells",
+    "h3 countCellsInParent -r 4",
     "h3 uniteCells --region r",
     "h3 compactCells --zones z",
     "h3 gridDiskUnsafe -c 0 -k 1 --region r",

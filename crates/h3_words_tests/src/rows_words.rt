@@ -227,7 +227,7 @@ fn reads_names_of_columns(rt: HostRuntime) {
 }
 
 /// Lines with the columns of errors and the rows of any number of fields: whether each is asked for.
-static FLAGS: [(&str, bool, bool); 14] = [
+static FLAGS: [(&str, bool, bool); 15] = [
     ("h3 getResolutions --field 1", false, false),
     ("h3 getResolutions --column a --keep-going", false, false),
     ("h3 getResolutions --column a --csv --as b", false, false),
@@ -274,6 +274,11 @@ static FLAGS: [(&str, bool, bool); 14] = [
         false,
         true,
     ),
+    (
+        "h3 countCellsInParents --ragged -r 4 --column a",
+        false,
+        true,
+    ),
 ];
 
 /// Whether a line asks for rows with, or without, a column of errors and any number of fields.
@@ -295,7 +300,7 @@ fn reads_flags(rt: HostRuntime) {
 }
 
 /// Lines of commands that answer about their list as a whole.
-static LISTS: [(&str, Expected); 9] = [
+static LISTS: [(&str, Expected); 11] = [
     (
         "h3 compactCells --field 2 --header",
         (Field::Number(2), true, b'\t', false, None, false),
@@ -332,6 +337,14 @@ static LISTS: [(&str, Expected); 9] = [
         "h3 countCellsInZones --zones z --csv --column cell",
         (Field::Column("cell"), true, b',', true, None, false),
     ),
+    (
+        "h3 countCellsInParents --csv -r 4 --column cell",
+        (Field::Column("cell"), true, b',', true, None, false),
+    ),
+    (
+        "h3 countCellsInParents -r 4 --field 2 --separator ;",
+        (Field::Number(2), false, b';', false, None, false),
+    ),
 ];
 
 #[test]
@@ -341,7 +354,7 @@ fn reads_rows_of_lists(rt: HostRuntime) {
 }
 
 /// Lines of commands on a bare list, or on none.
-static BARE: [&str; 13] = [
+static BARE: [&str; 14] = [
     "h3 compactCells",
     "h3 uncompactCells -r 6",
     "h3 uncompactCellsSize -r 6",
@@ -351,6 +364,7 @@ static BARE: [&str; 13] = [
     "h3 areCoveredCells --region r",
     "h3 cellsToZones --zones z",
     "h3 countCellsInZones --zones z",
+    "h3 countCellsInParents -r 4",
     "h3 cellsToParents -r 4",
     "h3 getResolutions",
     "h3 isValidCell -c 0",

@@ -4,7 +4,7 @@ use crate::expected::expect_all;
 use crate::refused_words::first_unsaid;
 
 /// Invalid lines, and what is said of each.
-static SAID: [(&str, &str); 49] = [
+static SAID: [(&str, &str); 55] = [
     (
         "h3 getResolutions --field -1",
         "invalid value '-1' for '--field <number>': -1 is not in 1..=65535",
@@ -162,6 +162,31 @@ static SAID: [(&str, &str); 49] = [
     (
         "h3 cellsToZones --zones z --column a --sum b",
         "unexpected argument '--sum' found",
+    ),
+    (
+        "h3 uncompactCellsSize -r 6 --column a --sum b",
+        "unexpected argument '--sum' found",
+    ),
+    (
+        "h3 countCellsInParents -r 4 --field 1 --sum a",
+        "error: the argument '--sum <sum>' cannot be used without '--column <column>' or '--header'\n\n\
+        Usage: h3 countCellsInParents --resolution <resolution> < cells\n",
+    ),
+    (
+        "h3 countCellsInParents -r 4 --column a --sum-field 1",
+        "error: the argument '--sum-field <sum-field>' cannot be used without '--field <number>'\n",
+    ),
+    (
+        "h3 countCellsInParents -r 4 --csv",
+        "error: the argument '--csv' cannot be used without '--field <number>' or '--column <column>'\n",
+    ),
+    (
+        "h3 countCellsInParents -r 4 --column a --separator . --sum b",
+        "error: invalid value '.' for '--separator <separator>': a sum may have a point\n",
+    ),
+    (
+        "h3 countCellsInParents -r 4 --column a --none b",
+        "unexpected argument '--none' found",
     ),
     (
         "h3 uniteCells --by a",

@@ -7,7 +7,7 @@ use h3_requests::CellField;
 use std::alloc::Global;
 
 /// Lines over rows of which a field is added up, or none, and that field.
-static SUMS: [(&str, Option<Field>); 13] = [
+static SUMS: [(&str, Option<Field>); 18] = [
     (
         "h3 countCellsInZones --zones z --zone-column a --zone-name b --csv --column cell --sum amount",
         Some(Field::Column("amount")),
@@ -49,6 +49,20 @@ static SUMS: [(&str, Option<Field>); 13] = [
         Some(Field::Column("c")),
     ),
     ("h3 countCellsInZones --zones z --csv --column sum", None),
+    (
+        "h3 countCellsInParents -r 4 --csv --column cell --sum amount",
+        Some(Field::Column("amount")),
+    ),
+    (
+        "h3 countCellsInParents --sum=-r -r 4 --header --field 1",
+        Some(Field::Column("-r")),
+    ),
+    (
+        "h3 countCellsInParents --sum-field 2 --field 1 -r 4",
+        Some(Field::Number(2)),
+    ),
+    ("h3 countCellsInParents -r 4 --field 1", None),
+    ("h3 countCellsInParents -r 4 --column sum --csv", None),
     (
         "h3 countCellsInZones --zones z --zone-field 1 --zone-name-field 2 --field 3",
         None,

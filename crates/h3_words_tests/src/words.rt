@@ -97,7 +97,7 @@ fn reads_a_cell(rt: HostRuntime) {
 }
 
 /// Lines of commands with a resolution, and on a list.
-static OF_A_RESOLUTION: [(&str, Command); 8] = [
+static OF_A_RESOLUTION: [(&str, Command); 10] = [
     ("h3 getNumCells -r 15", Command::GetNumCells { res: 15 }),
     (
         "h3 getPentagons --resolution=2147483647",
@@ -110,6 +110,14 @@ static OF_A_RESOLUTION: [(&str, Command); 8] = [
         Command::UncompactCellsSize { res: 16 },
     ),
     ("h3 uniteCells", Command::UniteCells),
+    (
+        "h3 countCellsInParents -r 4",
+        Command::CountCellsInParents { res: 4 },
+    ),
+    (
+        "h3 countCellsInParents --field=1 --resolution 2147483647",
+        Command::CountCellsInParents { res: 2147483647 },
+    ),
     (
         "h3 cellsToChildren -r 6",
         Command::CellsToChildren { res: 6 },
