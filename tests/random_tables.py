@@ -12,6 +12,27 @@ LITERAL = [b'"north"', b'5" pipe', b'"', b'"south', b'""north""', b"a\rb"]
 # names of columns
 TITLES = [b"zone", b"name", b"the zone", b"", b"error", b"a, b", b"two\nlines", b'the ""zone""']
 CELL_TITLES = [b"cell", b"h3", b"the cell", b"cell, h3"]
+# names of columns of numbers
+SUM_TITLES = [b"amount", b"fare", b"the sum", b"count", b"zone", b"", b"a, b"]
+# texts of numbers, and texts of none
+NUMBERS = [
+    *b"0 1 2 -1 +7 1.50 -0.5 0.1 0.2 -0.3 007 -0 +0.00 12.75 -3.25 1000000 999999999999999999".split(),
+    *b"-999999999999999999 0.000000000000000001 -0.000000000000000001 123456789012345678.987654321098765432".split(),
+    *b"999999999999999999.999999999999999999 -999999999999999999.999999999999999999".split(),
+]
+NO_NUMBERS = [
+    *b"1. .5 . - + -. --1 +-1 1- 1e3 0x1 1.2.3 1..2 1_000 1,5 inf NaN 1000000000000000000".split(),
+    b"0.0000000000000000000",
+    b"0000000000000000001",
+    b" 1",
+    b"1 ",
+    b"1 000",
+    b"\xc2\xb2",
+    b"\xef\xbc\x91",
+    b"1\x00",
+    b'""1""',
+    b"1\n",
+]
 NOISE = [b"", b"1", b"1.50", b"x", b"a, b", b'""', b"two\nlines", b"\xc3\xa9"]
 # what readers of CSV take in different ways, and fields without a cell
 ODD = [b'5" pipe', b' "a, b"', b'a, "', b'"', b'"a', b"a\rb", b'"a"b"c"', b'"a" ', b'"a"b', b'\t "a\nb"', b'""a']
@@ -133,6 +154,14 @@ def random_rows(chance, form, count, places, values):
             row[place] = missing(chance, form) if text is None else spelled(chance, form, text)
         rows.append(row)
     return rows
+
+
+def random_number(chance, form, is_damaged):
+    """The text of a number, or None if the field is to be blank; rarely of none."""
+    if chance.random() < 0.1:
+        return None
+    texts = NO_NUMBERS if is_damaged and chance.random() < 0.1 else NUMBERS
+    return chance.choice([it for it in texts if can_stand(form, it)])
 
 
 def random_lines(chance, blocks):

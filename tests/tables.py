@@ -181,9 +181,13 @@ def sum_text(number):
     return b"%s%d%s" % (b"-" * (number < 0), whole, f".{behind}".encode() if behind else b"")
 
 
-def cell_in(form, columns, fields, places, width):
+def any_cell(cell):
+    """Takes each cell, as most commands do."""
+
+
+def cell_in(form, columns, fields, places, width, judge=any_cell):
     """The cell in the fields of a row, and its number; None if the cell is missing: the row then says nothing, whatever
-    else it lacks."""
+    else it lacks. `judge` stops at a cell that a command does not take."""
     if width not in (None, len(fields)):
         raise Stop(f"{FAILED}: {len(fields)} fields, the header has {width}", 1)
     if places[0] >= len(fields):
@@ -195,6 +199,7 @@ def cell_in(form, columns, fields, places, width):
     if not has_second and not columns.has_numbers:
         raise Stop(f"{FAILED}: no such field", 1)
     cell = cell_of(text, ": not an index")
+    judge(cell)
     if not columns.has_numbers:
         return cell, None
     # (a number that is not there is none)
@@ -208,7 +213,7 @@ def place_of(form, fields, name):
     return places[0]
 
 
-def walk(form, columns, text):
+def walk(form, columns, text, judge=any_cell):
     """The rows of a table. A byte order mark is written with the first one, and not read."""
     has_names, width = any(isinstance(it, bytes) for it in columns.read), None
     places = None if has_names else columns.read
@@ -224,7 +229,8 @@ def walk(form, columns, text):
             places = [place_of(form, fields, it) if isinstance(it, bytes) else it for it in columns.read]
         elif fields:
             try:
-                row.cell, row.amount = cell_in(form, columns, fields, places, None if columns.is_ragged else width)
+                wanted = None if columns.is_ragged else width
+                row.cell, row.amount = cell_in(form, columns, fields, places, wanted, judge)
             except Stop as stop:
                 row.error = stop.args[0]
         row.places = places
@@ -233,13 +239,15 @@ def walk(form, columns, text):
         raise Stop("column: not found", 3)
 
 
-def lines_of(text):
-    """The number and the cell of each line of a bare list."""
+def lines_of(text, judge=any_cell):
+    """The cell of each line of a bare list."""
     for number, line in enumerate(text.split(b"\n"), 1):
         if len(line) > 64:
             raise Stop(f"line {number}: {FAILED}", 1)
         if line.strip(BLANKS):
             try:
-                yield cell_of(line.strip(BLANKS), "")
+                cell = cell_of(line.strip(BLANKS), "")
+                judge(cell)
             except Stop as stop:
                 raise Stop(f"line {number}: {stop.args[0]}", 1) from None
+            yield cell
