@@ -7,7 +7,9 @@
 //! `plain resolutions`, `plain parents RES` and `plain places RES` (its position below its ancestor). `plain zones COUNT
 //! PERCENT ORDER` looks a million cells, `sorted` or `random`, up COUNT times in so many in a hundred of the cells of
 //! resolution 5. `plain trips COUNT` writes a table of so many rows, and `plain rows FIELD RES` each row of one with the
-//! parent of the cell in that field.
+//! parent of the cell in that field. `plain counts RES` writes each ancestor of the cells on standard input with how many
+//! of them have it, `plain anywhere COUNT` so many random cells of resolution 9, and `plain areas CELL RES` a table of
+//! the children, each with one of a thousand names.
 //!
 //! Lists to be compacted: `plain first COUNT CELL RES` (the first children), `plain shuffled CELL RES` (all children in a
 //! random order, always the same), `plain lone CELL RES` (one child of each parent) and `plain mixed CELL RES` (the
@@ -176,6 +178,21 @@ fn read_cells() -> io::Result<Vec<u64>> {
     Ok(cells)
 }
 
+/// Writes each of these numbers, which are in order, with how often it is there.
+pub fn put_counts(out: &mut Page<impl Write>, ordered: &[u64]) -> io::Result<()> {
+    ordered.chunk_by(|one, other| one == other).try_for_each(|run| out.put_counted(run[0], run.len() as u64))
+}
+
+/// The ancestors at a resolution of the cells on standard input.
+fn read_parents(res: u64) -> io::Result<Vec<u64>> {
+    let mut parents = Vec::new();
+    for_indexes(|index| {
+        parents.push(parent_at(cell_of(index), res));
+        Ok(())
+    })?;
+    Ok(parents)
+}
+
 /// The cell without its mode and resolution: in this order each cell comes right after its descendants.
 fn post_order_key(cell: u64) -> u64 {
     cell & (1 << 52) - 1
@@ -268,6 +285,12 @@ fn base_cell(base: u64) -> u64 {
     0x0800_1fff_ffff_ffff + (base << 45)
 }
 
+/// A random cell of resolution 9, the same from the same state.
+fn anywhere(state: &mut u64) -> u64 {
+    let base = base_cell(congruence(state) % 122);
+    child_at(congruence(state) % 30_000_000, base, 9)
+}
+
 /// The sum of the zones of a million random cells of resolution 9, each looked up `rounds` times by `partition_point`
 /// in zones that are so many in a hundred of the cells of resolution 5.
 fn look_up(rounds: u64, percent: u64, sorted: bool) -> u64 {
@@ -278,12 +301,7 @@ fn look_up(rounds: u64, percent: u64, sorted: bool) -> u64 {
         .collect();
     zones.sort_unstable_by_key(|zone| key(*zone));
     let mut state = 2;
-    let mut cells: Vec<u64> = (0..1_000_000)
-        .map(|_| {
-            let base = base_cell(congruence(&mut state) % 122);
-            child_at(congruence(&mut state) % 30_000_000, base, 9)
-        })
-        .collect();
+    let mut cells: Vec<u64> = (0..1_000_000).map(|_| anywhere(&mut state)).collect();
     if sorted {
         cells.sort_unstable();
     }
@@ -534,6 +552,21 @@ fn main() -> io::Result<()> {
         ["parents", res] => {
             let res = res.parse().expect("a resolution");
             for_indexes(|index| out.put(parent_at(cell_of(index), res)))?
+        }
+        ["counts", res] => {
+            let mut parents = read_parents(res.parse().expect("a resolution"))?;
+            parents.sort_unstable();
+            put_counts(&mut out, &parents)?
+        }
+        ["anywhere", count] => {
+            let mut state = 3;
+            let count = count.parse().expect("a number");
+            write_cells(&mut out, (0..count).map(|_: u64| anywhere(&mut state)))?
+        }
+        ["areas", cell, res] => {
+            for (i, child) in children(cell, res).enumerate() {
+                writeln!(out, "area {}\t{child:x}", i % 1000)?
+            }
         }
         ["trips", count] => {
             let cells = children("8001fffffffffff", "9").step_by(7);

@@ -116,6 +116,14 @@ impl<W: Write> Page<W> {
         }
     }
 
+    /// Puts the line of an index, a blank and a count.
+    #[inline(always)]
+    pub fn put_counted(&mut self, index: u64, count: u64) -> io::Result<()> {
+        self.put(index)?;
+        self.bytes[self.end - 1] = b' ';
+        self.put_number(count)
+    }
+
     fn hand_on(&mut self) -> io::Result<()> {
         self.out.write_all(&self.bytes[..self.end])?;
         self.end = 0;
