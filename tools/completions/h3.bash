@@ -1,10 +1,10 @@
 # Completions of the command h3 for bash.
 # made from h3 --help (tools/pages)
-_h3_commands='isValidCell getResolution getBaseCellNumber isPentagon isResClassIII getNumCells getRes0Cells getPentagons cellToParent cellToCenterChild cellToLastChild cellToChildren cellToChildrenSize cellToChildPos childPosToCell gridDiskUnsafe gridDiskDistancesUnsafe gridRingUnsafe areNeighborCells cellsToDirectedEdge getDirectedEdgeDestination isValidDirectedEdge getDirectedEdgeOrigin originToDirectedEdges compactCells uncompactCells uncompactCellsSize uniteCells intersectCells subtractCells areCoveredCells cellsToZones countCellsInZones areValidCells areValidDirectedEdges getResolutions getBaseCellNumbers arePentagons areResClassIII cellsToParents cellsToCenterChildren cellsToLastChildren cellsToChildren cellsToChildrenSizes cellsToChildPositions gridDisksUnsafe gridDisksDistancesUnsafe gridRingsUnsafe getDirectedEdgeOrigins getDirectedEdgeDestinations originsToDirectedEdges'
+_h3_commands='isValidCell getResolution getBaseCellNumber isPentagon isResClassIII getNumCells getRes0Cells getPentagons cellToParent cellToCenterChild cellToLastChild cellToChildren cellToChildrenSize cellToChildPos childPosToCell gridDiskUnsafe gridDiskDistancesUnsafe gridRingUnsafe areNeighborCells cellsToDirectedEdge getDirectedEdgeDestination isValidDirectedEdge getDirectedEdgeOrigin originToDirectedEdges compactCells uncompactCells uncompactCellsSize uniteCells intersectCells subtractCells areCoveredCells cellsToZones countCellsInZones countCellsInParents areValidCells areValidDirectedEdges getResolutions getBaseCellNumbers arePentagons areResClassIII cellsToParents cellsToCenterChildren cellsToLastChildren cellsToChildren cellsToChildrenSizes cellsToChildPositions gridDisksUnsafe gridDisksDistancesUnsafe gridRingsUnsafe getDirectedEdgeOrigins getDirectedEdgeDestinations originsToDirectedEdges'
 _h3_options() {
     case $1 in
         isValidCell | getResolution | getBaseCellNumber | isPentagon | isResClassIII | originToDirectedEdges) echo --cell ;;
-        getNumCells | getPentagons | uncompactCells | uncompactCellsSize | cellsToParents | cellsToCenterChildren | cellsToLastChildren | cellsToChildren | cellsToChildrenSizes | cellsToChildPositions) echo --resolution ;;
+        getNumCells | getPentagons | uncompactCells | uncompactCellsSize | countCellsInParents | cellsToParents | cellsToCenterChildren | cellsToLastChildren | cellsToChildren | cellsToChildrenSizes | cellsToChildPositions) echo --resolution ;;
         cellToParent | cellToCenterChild | cellToLastChild | cellToChildren | cellToChildrenSize | cellToChildPos) echo --cell --resolution ;;
         childPosToCell) echo --position --cell --resolution ;;
         gridDiskUnsafe | gridDiskDistancesUnsafe | gridRingUnsafe) echo --cell -k --table ;;
@@ -25,6 +25,7 @@ _h3_rows() {
         areCoveredCells) echo --region-column --region-field --field --column --header --separator --csv --as --keep-going --errors --ragged ;;
         cellsToZones) echo --zone-column --zone-field --zone-name --zone-name-field --none --overlapping --field --column --header --separator --csv --as --keep-going --errors --ragged ;;
         countCellsInZones) echo --zone-column --zone-field --zone-name --zone-name-field --none --overlapping --sum --sum-field --field --column --header --separator --csv --ragged ;;
+        countCellsInParents) echo --sum --sum-field --field --column --header --separator --csv --ragged ;;
         areValidCells | areValidDirectedEdges | getResolutions | getBaseCellNumbers | arePentagons | areResClassIII | cellsToParents | cellsToCenterChildren | cellsToLastChildren | cellsToChildren | cellsToChildrenSizes | cellsToChildPositions | gridDisksUnsafe | gridDisksDistancesUnsafe | gridRingsUnsafe | getDirectedEdgeOrigins | getDirectedEdgeDestinations | originsToDirectedEdges) echo --field --column --header --separator --csv --as --keep-going --errors --ragged ;;
     esac
 }
