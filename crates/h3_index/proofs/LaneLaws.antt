@@ -1,5 +1,5 @@
 -- Sixteen hexadecimal digits, each in a lane of a vector.
-use Rattle.std.specs.Char.{digit_char, digit_value}
+use Rattle.std.specs.Char.{digit_char, digit_value, to_ascii_lowercase}
 use Rattle.std.specs.Int.Bits.{bit_and, bit_or}
 use Rattle.std.specs.Int.Digits.{number_from_digits, AllBelowBase}
 use Rattle.std.specs.List.{list_all}
@@ -87,6 +87,26 @@ lower_each (b ∷ v) fits small = rw (value_small b fits.0.fits small.0) (lower_
 
 pub values_others : (v : List ℕ) → length v ≡ 16 → Each1 (Fits w8) v → AllBelowBase 16 (values_of 16 v) → list_all is_lower_digit v ≡ true
 values_others v long fits small = lower_each v fits (rw (values_map v long) at small)
+
+-- ---- lower case
+
+-- what `lowered` computes from n bytes
+abbrev pub lowered_of : ℕ → List ℕ → List ℕ
+lowered_of n v = zip2 plus v (sel_l (map (top 7) (zip2 is_less (zip2 minus v (replicate n 65)) (replicate n 26))) (replicate n 32) (replicate n 0))
+
+-- from one of them
+abbrev lowered_one : ℕ → ℕ
+lowered_one b = plus b (cond (top 7 (is_less (minus b 65) 26)) 32 0)
+
+lowered_is : (b : ℕ) → b < 256 → lowered_one b ≡ to_ascii_lowercase b
+lowered_is b less = eqb-true _ _ (agree_below_at (λ b. lowered_one b == to_ascii_lowercase b) (λ _. true) 256 b refl less)
+
+lowered_each : (v : List ℕ) → Each1 (Fits w8) v → lowered_of (length v) v ≡ map to_ascii_lowercase v
+lowered_each [] fits = refl
+lowered_each (b ∷ v) fits = ap₂ (λ x xs. x ∷ xs) (lowered_is b fits.0.fits) (lowered_each v fits.1)
+
+pub lowered_lanes : (v : List ℕ) → length v ≡ 16 → Each1 (Fits w8) v → lowered_of 16 v ≡ map to_ascii_lowercase v
+lowered_lanes v long fits = rw long at (lowered_each v fits)
 
 -- ---- lanes below 16
 

@@ -15,5 +15,5 @@ pub use edge::Edge;
 pub use error::H3Error;
 pub use text::{
     index_bytes, is_blank_text, put_cell_line, put_children_lines, read_index, read_plain,
-    write_index,
+    read_trimmed, write_index,
 };

@@ -8,6 +8,7 @@ ghost use Rattle.h3_index.specs.Text.{without_leading_zeros, is_blank, without_l
 
 mod lanes;
 mod lines;
+mod long;
 mod pairs;
 mod plain;
 
@@ -15,6 +16,8 @@ use crate::error::H3Error;
 use arrayvec::ArrayString;
 use lanes::write_sixteen;
 pub use lines::{put_cell_line, put_children_lines};
+use long::read_long;
+pub use long::read_trimmed;
 pub use plain::read_plain;
 use std::str;
 
@@ -75,7 +78,10 @@ fn without_prefix(bytes: &[u8]) -> &[u8]
 fn read_digits(digits: &[u8]) -> Option<u64>
     ensures { result ≡ parsed_number digits.now }
 {
-    if digits.is_empty() || digits.len() > 16 {
+    if digits.len() >= 8 {
+        return read_long(digits);
+    }
+    if digits.is_empty() {
         return None;
     }
     let mut number = 0;
@@ -98,7 +104,7 @@ pub fn read_index(bytes: &[u8]) -> Result<u64, H3Error>
     ensures parsed { result_ok result ≡ parsed_index bytes.now }
     ensures refused { IfErr result (λ e. e ≡ H3Error.Failed) }
 {
-    if let Some(index) = read_plain(bytes) {
+    if let Some(index) = read_trimmed(bytes) {
         return Ok(index);
     }
     let text = without_trailing_blanks(without_leading_blanks(bytes));

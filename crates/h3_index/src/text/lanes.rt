@@ -1,7 +1,7 @@
 //! Sixteen hexadecimal digits at once, each in a lane of a vector.
 
 ghost use Rattle.std.specs.Prelude.{◌≡◌, ◌++◌, ◌∷◌, [], length, map, true};
-ghost use Rattle.std.specs.Char.{digit_char, digit_value};
+ghost use Rattle.std.specs.Char.{digit_char, digit_value, to_ascii_lowercase};
 ghost use Rattle.std.specs.Int.Digits.{number_from_digits, AllBelowBase};
 ghost use Rattle.std.specs.List.{list_all};
 ghost use Rattle.h3_index.specs.Digits.{last_digits};
@@ -53,22 +53,40 @@ fn joined(digits: u8x16) -> u64
     halves[0] * 16 + halves[1]
 }
 
-/// The number that sixteen hexadecimal digits in lower case stand for, eight and eight; none for
-/// other bytes.
+/// The number that sixteen hexadecimal digits in lower case stand for; none for other bytes.
 #[inline(always)]
-pub(crate) fn read_sixteen(first: &[u8], last: &[u8]) -> Option<u64>
-    requires first { length first.now ≡ 8 }
-    requires last { length last.now ≡ 8 }
-    ensures { result ≡ plain_index (first.now ++ last.now) }
+pub(crate) fn read_sixteen(bytes: u8x16) -> Option<u64>
+    requires { length bytes ≡ 16 }
+    ensures { result ≡ plain_index bytes }
 {
-    let (first, last) = (u8x8::from_slice(first), u8x8::from_slice(last));
-    let bytes = first.shuffle(last, [0, 1, 2, 3, 4, 5, 6, 7, 8, 9, 10, 11, 12, 13, 14, 15]);
     let digits = values(bytes);
     if are_below_sixteen(digits) {
         Some(joined(digits))
     } else {
         None
     }
+}
+
+/// Eight bytes and eight others, each in a lane.
+#[inline(always)]
+pub(crate) fn sixteen_lanes(first: &[u8], last: &[u8]) -> u8x16
+    requires first { length first.now ≡ 8 }
+    requires last { length last.now ≡ 8 }
+    ensures { result ≡ first.now ++ last.now }
+{
+    let (first, last) = (u8x8::from_slice(first), u8x8::from_slice(last));
+    first.shuffle(last, [0, 1, 2, 3, 4, 5, 6, 7, 8, 9, 10, 11, 12, 13, 14, 15])
+}
+
+/// The bytes with the letters `A` to `Z` in lower case.
+#[inline(always)]
+pub(crate) fn lowered(bytes: u8x16) -> u8x16
+    requires { length bytes ≡ 16 }
+    ensures { result ≡ map to_ascii_lowercase bytes }
+{
+    // Counted from `A`, the capitals are the first 26 bytes.
+    let capitals = (bytes - u8x16::splat(b'A')).simd_lt(u8x16::splat(26));
+    bytes + capitals.select(u8x16::splat(32), u8x16::splat(0))
 }
 
 /// The sixteen hexadecimal digits of a number, the highest first, each in a lane.
