@@ -1,7 +1,7 @@
 -- The search for the cell of a region that stands above a cell.
 use Rattle.std.specs.Int.{from_bool}
 use Rattle.std.specs.List.Sorted.{IsNonDecreasingBy}
-use Rattle.std.proofs.Common.{ℕ, ◌≡◌, ◌+◌, ◌-◌, ◌^◌, ◌<◌, ◌≤◌, ◌⊎◌, List, length, true, false, ◌*◌, nat_lt, nat_le, IsTrue, ◌↔◌, arith, ◌∙◌, sym, ap, subst, inl, inr, get_or}
+use Rattle.std.proofs.Common.{ℕ, ◌≡◌, ◌+◌, ◌-◌, ◌^◌, ◌<◌, ◌≤◌, ◌⊎◌, List, [], ◌∷◌, length, Bool, true, false, ◌*◌, nat_lt, nat_le, IsTrue, ◌↔◌, arith, ◌∙◌, refl, sym, ap, subst, inl, inr, get_or}
 use Rattle.std.proofs.lemmas.Bool.{cases_lt, leb-true, le-leb}
 use Rattle.std.proofs.lemmas.Bool.Decides.{nat_tests}
 use Rattle.h3_index.specs.Cell.{Address, IsCell, resolution}
@@ -14,11 +14,16 @@ use Rattle.h3_regions.proofs.ListLaws.{any_default}
 is_less : (m n : ℕ) → nat_lt m n ≡ true → m < n
 is_less m n h = grind (arith, nat_tests)
 
-less_is : (m n : ℕ) → m < n → nat_lt m n ≡ true
+pub less_is : (m n : ℕ) → m < n → nat_lt m n ≡ true
 less_is m n h = grind (arith, nat_tests)
 
-less_is_not : (m n : ℕ) → n ≤ m → nat_lt m n ≡ false
+pub less_is_not : (m n : ℕ) → n ≤ m → nat_lt m n ≡ false
 less_is_not m n h = grind (arith, nat_tests)
+
+-- the table of halves has at 0 and at 1 these themselves
+pub half_at : (b : Bool) → get_or (0 ∷ 1 ∷ []) (from_bool b) 0 ≡ from_bool b
+half_at true = refl
+half_at false = refl
 
 back_one : (i : ℕ) → i + 1 - 1 ≡ i
 back_one i = omega arith

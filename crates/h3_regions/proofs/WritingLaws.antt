@@ -1,9 +1,10 @@
 -- The areas of a cell, written one resolution after another.
+use Rattle.std.specs.Int.{from_bool}
 use Rattle.std.specs.List.{AllWithin}
-use Rattle.std.proofs.Common.{ℕ, ◌≡◌, ◌≢◌, ◌+◌, ◌^◌, ◌<◌, ◌≤◌, ◌⊎◌, ◌↔◌, max, List, [], ◌∷◌, ◌++◌, length, take, set, AllPairs, Contains, arith, ◌∙◌, sym, ap, subst, inl, inr, get_or}
+use Rattle.std.proofs.Common.{ℕ, ◌≡◌, ◌≢◌, ◌+◌, ◌-◌, ◌*◌, ◌^◌, ◌<◌, ◌≤◌, ◌⊎◌, ◌↔◌, nat_lt, List, [], ◌∷◌, ◌++◌, length, take, set, AllPairs, Contains, arith, ◌∙◌, sym, ap, subst, inl, inr, get_or}
 use Rattle.std.proofs.Math.ListN.{length-set}
 use Rattle.std.proofs.lemmas.Bool.{cases_lt}
-use Rattle.std.proofs.lemmas.List.{take_more_set}
+use Rattle.std.proofs.lemmas.List.{get_or-set_other, get_or-set_same, take_more_set}
 use Rattle.std.proofs.lemmas.List.Elements.{Contains-append_left, Contains-get_or, Contains-push, Contains-push_cases}
 use Rattle.std.proofs.lemmas.Nat.{mod_below}
 use Rattle.h3_index.specs.Cell.{Address, IsCell, number_of, resolution}
@@ -13,10 +14,11 @@ use Rattle.h3_tree.specs.Laws.{CellsFormTrees}
 use Rattle.h3_tree.specs.PostOrder.{post_order_key as key, CellsFormIntervals}
 use Rattle.h3_set.specs.Laws.{AncestorsAreFound}
 use Rattle.h3_regions.specs.Areas.{AreAreasOf, coarsest, IsBefore}
-use Rattle.h3_regions.specs.Listed.{AreListed, IsFirstOf, IsWritten, LiesAbove, pair_number}
+use Rattle.h3_regions.specs.Listed.{AreListed, IsFirstOf, IsStart, IsWritten, LiesAbove, pair_number}
 use Rattle.h3_regions.proofs.CoarsestLaws.{coarsest_from, coarsest_le}
 use Rattle.h3_regions.proofs.ListLaws.{any_default, contains_at, contains_cases, member_at}
 use Rattle.h3_regions.proofs.ListingLaws.{pairs_append}
+use Rattle.h3_regions.proofs.SearchLaws.{less_is, less_is_not}
 
 -- ---- the order of numbers
 
@@ -71,6 +73,63 @@ module _ (areas : List (Address × ℕ)) (listed : AreListed areas) where
       let same : number_of (get_or areas middle d).0 ≡ number_of p.0 = ap (λ q. number_of q.0) at in
       omega (arith, h, same, le)
 
+  -- half of a search: what is sought stays between
+  pub halved : (number first size h passed : ℕ) (p : Address × ℕ) → h + h ≤ size → h < size → first + size ≤ length areas
+      → p ≡ get_or areas (first + h) p → passed ≡ from_bool (nat_lt (number_of p.0) number)
+      → AllWithin (λ q. number_of q.0 < number) areas 0 first
+      → AllWithin (λ q. number ≤ number_of q.0) areas (first + size) (length areas)
+      → (first + h * passed + (size - h) ≤ first + size) ×
+      AllWithin (λ q. number_of q.0 < number) areas 0 (first + h * passed) ×
+      AllWithin (λ q. number ≤ number_of q.0) areas (first + h * passed + (size - h)) (length areas)
+  halved number first size h passed p half some room is counted before after =
+      elim (cases_lt (number_of p.0) number) [
+        | inl less ↦
+            let one : passed ≡ 1 = counted ∙ ap from_bool (less_is (number_of p.0) number less) in
+            let at : first + h * passed ≡ first + h = rw one (omega arith) in
+            let end : first + h * passed + (size - h) ≡ first + size = rw one (omega (arith, some)) in
+            let more = low_more number first (first + h) p (omega (arith, some, room)) is less in
+            (omega (arith, end), rw at (λ k d low lt. more k d low (omega (arith, lt))), rw end after)
+        | inr not ↦
+            let none : passed ≡ 0 = counted ∙ ap from_bool (less_is_not (number_of p.0) number not) in
+            let at : first + h * passed ≡ first = rw none (omega arith) in
+            let end : first + h * passed + (size - h) ≡ first + (size - h) = rw none (omega arith) in
+            let more = high_less number (first + h) p (omega (arith, some, room)) is not in
+            (omega (arith, end), rw at before, rw end (λ k d low lt. more k d (omega (arith, low, half)) lt))
+      ]
+
+  -- ---- where the pairs of a resolution start
+  pub start_here : CellsFormIntervals → (r place : ℕ) (p : Address × ℕ) → place < length areas
+      → p ≡ get_or areas place p → r ≤ resolution p.0
+      → AllWithin (λ q. resolution q.0 < r) areas 0 place → IsStart areas r place
+  start_here intervals r place p lt is le before = record {
+    within = omega (arith, lt);
+    before = before;
+    after = λ k d low l. (
+        let up =
+        number_coarser intervals (get_or areas place d).0 (get_or areas k d).0 (listed.valid place d lt)
+        (listed.valid k d l) (numbers_rise place k d low l) in
+        let same : resolution (get_or areas place d).0 ≡ resolution p.0 =
+        ap (λ q. resolution q.0) (any_default areas place d p lt ∙ sym is) in
+        omega (arith, up, same, le));
+  }
+
+-- the starts of the resolutions coarser than r are counted
+abbrev pub AreStartsBelow : List (Address × ℕ) → List ℕ → ℕ → Type 0
+AreStartsBelow areas starts r = (k d : ℕ) → k < r → IsStart areas k (get_or starts k d)
+
+pub one_start_more : (areas : List (Address × ℕ)) (starts : List ℕ) (r place : ℕ) → r < length starts
+    → IsStart areas r place → AreStartsBelow areas starts r → AreStartsBelow areas (set starts r place) (r + 1)
+one_start_more areas starts r place room start below k d lt = elim (cases_lt k r) [
+  | inl less ↦
+      let e : get_or (set starts r place) k d ≡ get_or starts k d =
+      get_or-set_other starts r k place d (λ e. omega (arith, e, less)) in
+      rw e (below k d less)
+  | inr not ↦
+      let e : k ≡ r = omega (arith, lt, not) in
+      let at : get_or (set starts r place) r d ≡ place = get_or-set_same starts r place d room in
+      rw (e, at) start
+]
+
 -- ---- the pairs with one cell
 
 one_member : (y n : ℕ) → Contains (y ∷ []) n → y ≡ n
@@ -104,12 +163,21 @@ module _ (tree : CellsFormTrees) (intervals : CellsFormIntervals) (unique : Numb
   a_level : resolution (ancestor_at x r) ≡ r
   a_level = tree.resolution-ancestor_at x r coarse
 
-  -- where a search may begin
-  pub begin_before : (place : ℕ) → place ≤ length areas → AllWithin (λ p. resolution p.0 < r) areas 0 place
+  -- where a search begins and ends
+  pub begin_before : (place : ℕ) → IsStart areas r place
       → AllWithin (λ p. number_of p.0 < number_of (ancestor_at x r)) areas 0 place
-  begin_before place within before k d low lt =
+  begin_before place start k d low lt =
       coarser_number intervals (get_or areas k d).0 (ancestor_at x r)
-      (listed.valid k d (omega (arith, lt, within))) a_valid (let h = before k d low lt in omega (arith, h, a_level))
+      (listed.valid k d (omega (arith, lt, start.within))) a_valid
+      (let h = start.before k d low lt in omega (arith, h, a_level))
+
+  pub end_after : (place : ℕ) → IsStart areas (r + 1) place
+      → AllWithin (λ p. number_of (ancestor_at x r) ≤ number_of p.0) areas place (length areas)
+  end_after place end k d low lt =
+      let up =
+      coarser_number intervals (ancestor_at x r) (get_or areas k d).0 a_valid (listed.valid k d lt)
+      (let h = end.after k d low lt in omega (arith, h, a_level)) in
+      omega (arith, up)
 
   pub writing_begins : (place count first : ℕ) (numbers : List ℕ) → IsWritten areas x r place count numbers
       → IsFirstOf areas (number_of (ancestor_at x r)) first → place ≤ first
@@ -254,9 +322,9 @@ module _ (tree : CellsFormTrees) (intervals : CellsFormIntervals) (unique : Numb
       }
 
   -- ---- the end of the pairs with one cell
-  module _ (first place count : ℕ) (numbers : List ℕ) (f : IsFirstOf areas (number_of (ancestor_at x r)) first)
-      (inv : IsWriting areas x r first place count numbers)
-      (beyond : place < length areas → (d : Address × ℕ) → number_of (get_or areas place d).0 ≢ number_of (ancestor_at x r)) where
+  module _ (first place to count : ℕ) (numbers : List ℕ) (f : IsFirstOf areas (number_of (ancestor_at x r)) first)
+      (inv : IsWriting areas x r first place count numbers) (le : place ≤ to) (end : IsStart areas (r + 1) to)
+      (beyond : place < to → (d : Address × ℕ) → number_of (get_or areas place d).0 ≢ number_of (ancestor_at x r)) where
     ended_at : (n : ℕ) (c : Address) → Contains areas (c, n) → c ≡ ancestor_at x r
         → (k : ℕ) × (first ≤ k) × (k < place) × ((get_or areas k (x, n)).1 ≡ n)
     ended_at n c m e =
@@ -270,31 +338,26 @@ module _ (tree : CellsFormTrees) (intervals : CellsFormIntervals) (unique : Numb
         ] in
         let high : m.0 < place = elim (cases_lt m.0 place) [
           | inl less ↦ less
-          | inr not ↦
-              let lp : place < length areas = omega (arith, not, m.1) in
-              let up = numbers_rise areas listed place m.0 d not m.1 in
-              let le = f.after place d inv.from lp in
-              absurd (beyond lp d (omega (arith, up, le, number)))
+          | inr not ↦ elim (cases_lt place to) [
+            | inl more ↦
+                let lp : place < length areas = omega (arith, not, m.1) in
+                let up = numbers_rise areas listed place m.0 d not m.1 in
+                let least = f.after place d inv.from lp in
+                absurd (beyond more d (omega (arith, up, least, number)))
+            | inr all ↦
+                let fine = end.after m.0 d (omega (arith, not, all)) m.1 in
+                let level : resolution (get_or areas m.0 d).0 ≡ resolution (ancestor_at x r) =
+                ap (λ p. resolution p.0) at ∙ ap resolution e in
+                absurd (omega (arith, fine, level, a_level))
+          ]
         ] in
         (m.0, low, high, ap (λ p. p.1) at)
 
-    pub written : IsWritten areas x (r + 1) place count numbers
+    pub written : IsWritten areas x (r + 1) to count numbers
     written = record {
-      within = inv.within;
-      fewer = inv.fewer;
+      start = end;
+      fewer = omega (arith, inv.fewer, le);
       room = inv.room;
-      before = λ k d low lt. (
-          let vk = listed.valid k d (omega (arith, lt, inv.within)) in
-          let le : resolution (get_or areas k d).0 ≤ resolution (ancestor_at x r) = elim (cases_lt k first) [
-            | inl less ↦
-                let h = f.before k d low less in
-                number_coarser intervals (get_or areas k d).0 (ancestor_at x r) vk a_valid (omega (arith, h))
-            | inr not ↦
-                let e : resolution (get_or areas k d).0 ≡ resolution (ancestor_at x r) =
-                ap resolution (inv.run k d not lt) in
-                omega (arith, e)
-          ] in
-          omega (arith, le, a_level));
       each = λ n. (
         (λ k. elim ((inv.each n).0 k) [
           | inl above ↦
@@ -326,13 +389,12 @@ module _ (tree : CellsFormTrees) (intervals : CellsFormIntervals) (unique : Numb
 
 -- ---- from the coarsest resolution to the cell's own
 
-pub none_written : (areas : List (Address × ℕ)) (x : Address) (numbers : List ℕ) → length areas ≤ length numbers
-    → IsWritten areas x 0 0 0 numbers
-none_written areas x numbers room = record {
-  within = omega arith;
+pub none_written : (areas : List (Address × ℕ)) (x : Address) (place : ℕ) (numbers : List ℕ)
+    → length areas ≤ length numbers → IsStart areas 0 place → IsWritten areas x 0 place 0 numbers
+none_written areas x place numbers room start = record {
+  start = start;
   fewer = omega arith;
   room = room;
-  before = λ k d low lt. absurd (omega (arith, lt));
   each = λ n. (
     (λ m. absurd (omega (arith, m.1))),
     (λ h. let s = h.coarser in absurd (omega (arith, s))),
@@ -340,67 +402,51 @@ none_written areas x numbers room = record {
   in_order = λ i j d lt lj. absurd (omega (arith, lj));
 }
 
--- where no pair from the place on is coarser than s, nothing is written from r to s
-pub skipped : (intervals : CellsFormIntervals) (areas : List (Address × ℕ)) (listed : AreListed areas) (x : Address) (r s place count : ℕ) (numbers : List ℕ) (d : Address × ℕ)
-    → r ≤ s → place < length areas → (s ≡ r ⊎ (s ≡ resolution (get_or areas place d).0))
-    → IsWritten areas x r place count numbers → IsWritten areas x s place count numbers
-skipped intervals areas listed x r s place count numbers d le lt least w =
-    let below : (n : ℕ) (h : LiesAbove areas x s n) → resolution h.by < r = λ n h. (
+-- nothing is written of a resolution of which there are no pairs
+pub none_between : (areas : List (Address × ℕ)) (x : Address) (r from to count : ℕ) (numbers : List ℕ) → to ≤ from
+    → IsStart areas (r + 1) to → IsWritten areas x r from count numbers → IsWritten areas x (r + 1) to count numbers
+none_between areas x r from to count numbers le end w =
+    let same : from ≤ to = elim (cases_lt to from) [
+      | inl less ↦
+          let d : Address × ℕ = (x, 0) in
+          let coarse = w.start.before to d (omega arith) less in
+          let fine = end.after to d (omega arith) (omega (arith, less, w.start.within)) in
+          absurd (omega (arith, coarse, fine))
+      | inr not ↦ not
+    ] in
+    let below : (n : ℕ) (h : LiesAbove areas x (r + 1) n) → resolution h.by < r = λ n h. (
     let m = h.member in
-    let e : Address × ℕ = (h.by, n) in
-    let at : (get_or areas m.0 (h.by, n)).0 ≡ h.by = ap (λ p. p.0) m.2 in
-    let same : resolution (get_or areas m.0 (h.by, n)).0 ≡ resolution h.by = ap resolution at in
-    elim (cases_lt m.0 place) [
-      | inl before ↦ let k = w.before m.0 (h.by, n) (omega arith) before in omega (arith, k, same)
-      | inr after ↦ elim least [
-        | inl e ↦ let c = h.coarser in omega (arith, c, e)
-        | inr level ↦
-            let up = numbers_rise areas listed place m.0 d after m.1 in
-            let up_to =
-            number_coarser intervals (get_or areas place d).0 (get_or areas m.0 d).0 (listed.valid place d lt)
-            (listed.valid m.0 d m.1) up in
-            let there : resolution (get_or areas m.0 d).0 ≡ resolution h.by =
-            ap (λ p. resolution p.0) (any_default areas m.0 d (h.by, n) m.1) ∙ same in
-            let c = h.coarser in
-            absurd (omega (arith, c, level, up_to, there))
-      ]
+    let is : resolution (get_or areas m.0 (h.by, n)).0 ≡ resolution h.by = ap (λ p. resolution p.0) m.2 in
+    elim (cases_lt m.0 from) [
+      | inl before ↦ let k = w.start.before m.0 (h.by, n) (omega arith) before in omega (arith, k, is)
+      | inr after ↦
+          let k = end.after m.0 (h.by, n) (omega (arith, after, le)) m.1 in
+          let c = h.coarser in
+          absurd (omega (arith, k, is, c))
     ]) in
     record {
-      within = w.within;
-      fewer = w.fewer;
+      start = end;
+      fewer = omega (arith, w.fewer, same);
       room = w.room;
-      before = λ k e low l. (let h = w.before k e low l in omega (arith, h, le));
       each = λ n. (
-        (λ m. let h = (w.each n).0 m in let c = h.coarser in record { by = h.by; member = h.member; above = h.above; coarser = omega (arith, c, le) }),
+        (λ m.
+            let h = (w.each n).0 m in
+            let c = h.coarser in
+            record { by = h.by; member = h.member; above = h.above; coarser = omega (arith, c) }),
         (λ h. (w.each n).1 (record { by = h.by; member = h.member; above = h.above; coarser = below n h })),
       );
       in_order = w.in_order;
     }
 
-pub skipped_to : (intervals : CellsFormIntervals) (areas : List (Address × ℕ)) (listed : AreListed areas) (x : Address) (r s level place count : ℕ) (numbers : List ℕ) (d : Address × ℕ)
-    → place < length areas → s ≡ max r level → level ≡ resolution (get_or areas place d).0
-    → IsWritten areas x r place count numbers → IsWritten areas x s place count numbers
-skipped_to intervals areas listed x r s level place count numbers d lt most is w =
-    skipped intervals areas listed x r s place count numbers d (omega (arith, most)) lt
-    (elim (cases_lt r level) [ inl less ↦ inr (omega (arith, most, less) ∙ is) | inr not ↦ inl (omega (arith, most, not)) ]) w
-
--- all resolutions up to the cell's own are done, or all pairs
+-- all resolutions up to the cell's own are done
 pub all_written : (tree : CellsFormTrees) (areas : List (Address × ℕ)) (x : Address) (r place count : ℕ) (numbers : List ℕ)
-    → ((resolution x < r) ⊎ (length areas ≤ place)) → IsWritten areas x r place count numbers
-    → AreAreasOf areas x (take count numbers)
+    → resolution x < r → IsWritten areas x r place count numbers → AreAreasOf areas x (take count numbers)
 all_written tree areas x r place count numbers done w = record {
   each = λ n. (
     (λ m. let h = (w.each n).0 m in record { by = h.by; member = h.member; above = h.above }),
     (λ h.
-        let m = h.member in
-        let coarse : resolution h.by < r = elim done [
-          | inl lt ↦ let le = tree.no_finer h.by x h.above in omega (arith, le, lt)
-          | inr end ↦
-              let k = w.before m.0 (h.by, n) (omega arith) (omega (arith, m.1, end)) in
-              let same : resolution (get_or areas m.0 (h.by, n)).0 ≡ resolution h.by = ap (λ p. resolution p.0) m.2 in
-              omega (arith, k, same)
-        ] in
-        (w.each n).1 (record { by = h.by; member = h.member; above = h.above; coarser = coarse })),
+        let le = tree.no_finer h.by x h.above in
+        (w.each n).1 (record { by = h.by; member = h.member; above = h.above; coarser = omega (arith, le, done) })),
   );
   in_order = w.in_order;
 }

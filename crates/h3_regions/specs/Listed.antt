@@ -1,6 +1,6 @@
 -- Pairs in the order of their cells' numbers, by which the areas of a cell are written one after another. Private
 -- contracts and proofs alone cite this file.
-use Rattle.std.specs.Prelude.{ℕ, ◌+◌, ◌*◌, ◌^◌, ◌<◌, ◌≤◌, ◌↔◌, List, All, AllPairs, Contains, length, take}
+use Rattle.std.specs.Prelude.{ℕ, ◌+◌, ◌*◌, ◌^◌, ◌<◌, ◌≤◌, ◌↔◌, List, All, AllPairs, Contains, get_or, length, take}
 use Rattle.std.specs.List.{AllWithin}
 use Rattle.h3_index.specs.Cell.{Address, IsCell, number_of, resolution}
 use Rattle.h3_index.specs.Descendants.{IsAncestor}
@@ -29,12 +29,21 @@ pub record LiesAbove (areas : List (Address × ℕ)) (x : Address) (r n : ℕ) :
   pub above : IsAncestor by x
   pub coarser : resolution by < r
 
--- the areas that x lies in by cells coarser than r are the first numbers, in order, and the pairs before a place have
--- cells coarser than r
-pub record IsWritten (areas : List (Address × ℕ)) (x : Address) (r place count : ℕ) (numbers : List ℕ) : Type 0 where
+-- the pairs of cells of a resolution and of finer ones start at a place
+pub record IsStart (areas : List (Address × ℕ)) (r place : ℕ) : Type 0 where
   pub within : place ≤ length areas
+  pub before : AllWithin (λ p. resolution p.0 < r) areas 0 place
+  pub after : AllWithin (λ p. r ≤ resolution p.0) areas place (length areas)
+
+-- the places where those of each resolution start; at 16, which no cell has, is the end
+abbrev pub AreStarts : List (Address × ℕ) → List ℕ → Type 0
+AreStarts areas starts = (r d : ℕ) → r < 17 → IsStart areas r (get_or starts r d)
+
+-- the areas that x lies in by cells coarser than r are the first numbers, in order, and the pairs of r start at a
+-- place
+pub record IsWritten (areas : List (Address × ℕ)) (x : Address) (r place count : ℕ) (numbers : List ℕ) : Type 0 where
+  pub start : IsStart areas r place
   pub fewer : count ≤ place
   pub room : length areas ≤ length numbers
-  pub before : AllWithin (λ p. resolution p.0 < r) areas 0 place
   pub each : (n : ℕ) → Contains (take count numbers) n ↔ LiesAbove areas x r n
   pub in_order : AllPairs (IsBefore areas x) (take count numbers)

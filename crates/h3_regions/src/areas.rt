@@ -4,9 +4,10 @@ ghost use Rattle.std.specs.Prelude.{ℕ, ◌≡◌, ◌+◌, ◌^◌, ◌≤◌,
 ghost use Rattle.std.specs.List.{AllWithin};
 ghost use Rattle.h3_index.specs.Cell.{Address, IsCell, number_of, resolution};
 ghost use Rattle.h3_regions.specs.Areas.{AreAreasOf, areas_of};
-ghost use Rattle.h3_regions.specs.Listed.{AreListed, IsFirstOf, IsWritten, pair_number};
+ghost use Rattle.h3_regions.specs.Listed.{AreListed, AreStarts, IsFirstOf, IsStart, IsWritten, pair_number};
 
 use crate::order::have_cells;
+use crate::zones::HALVES;
 use h3_index::Cell;
 use h3_index::laws::numbers_are_unique;
 use h3_set::laws::coverages_decide_lists;
@@ -43,25 +44,63 @@ fn put_by_number(pairs: &mut [(Cell, u32)])
     pairs.sort_unstable_by_key(|p: &(Cell, u32)| pair_number(p.0, p.1));
 }
 
-/// Lower bound of a cell's number among the pairs from a place on, as `partition_point`.
-fn first_of(pairs: &[(Cell, u32)], number: u64, from: usize) -> usize
+/// How many resolutions there are.
+const LEVELS: usize = 16;
+
+/// Returns where the pairs of a resolution start: how many have cells of coarser ones. The count starts at
+/// a place before which all have such cells.
+fn start_of(pairs: &[(Cell, u32)], r: usize, from: usize) -> usize
     requires listed { AreListed pairs.now }
     requires within { from ≤ length pairs.now }
-    requires before { AllWithin (λ p. number_of p.0 < number) pairs.now 0 from }
-    ensures first { IsFirstOf pairs.now number result }
-    ensures later { from ≤ result }
+    requires before { AllWithin (λ p. resolution p.0 < r) pairs.now 0 from }
+    ensures { IsStart pairs.now r result }
 {
-    let mut low = from;
-    let mut high = pairs.len();
-    while low < high {
-        let middle = low + (high - low) / 2;
-        if pairs[middle].0.raw() < number {
-            low = middle + 1;
-        } else {
-            high = middle;
-        }
+    cells_form_intervals();
+    let mut place = from;
+    while place < pairs.len() && usize::from(pairs[place].0.resolution()) < r {
+        place += 1;
     }
-    low
+    place
+}
+
+/// Returns where the pairs of each resolution start, and how many pairs there are.
+fn starts_of(pairs: &[(Cell, u32)]) -> [usize; LEVELS + 1]
+    requires listed { AreListed pairs.now }
+    ensures { AreStarts pairs.now result }
+{
+    let mut starts = [0; LEVELS + 1];
+    let mut place = 0;
+    for r in 0..LEVELS + 1 {
+        place = start_of(pairs, r, place);
+        starts[r] = place;
+    }
+    starts
+}
+
+/// Lower bound of a cell's number among the pairs between two places, as `partition_point`.
+fn first_between(pairs: &[(Cell, u32)], number: u64, from: usize, to: usize) -> usize
+    requires listed { AreListed pairs.now }
+    requires in_order { from ≤ to }
+    requires within { to ≤ length pairs.now }
+    requires before { AllWithin (λ p. number_of p.0 < number) pairs.now 0 from }
+    requires after { AllWithin (λ p. number ≤ number_of p.0) pairs.now to (length pairs.now) }
+    ensures first { IsFirstOf pairs.now number result }
+    ensures low { from ≤ result }
+    ensures high { result ≤ to }
+{
+    let mut first = from;
+    let mut size = to - from;
+    while size > 1 {
+        let half = size / 2;
+        let passed = usize::from(pairs[first + half].0.raw() < number);
+        first += half * HALVES[passed];
+        size -= half;
+    }
+    if size == 1 && pairs[first].0.raw() < number {
+        first + 1
+    } else {
+        first
+    }
 }
 
 /// Whether a number is among some.
@@ -71,27 +110,24 @@ fn has(numbers: &[u32], number: u32) -> bool
     numbers.contains(&number)
 }
 
-/// How many numbers are written, and the place of the first pair that is not looked at yet.
-#[derive(Drop)]
-struct Written {
-    place: usize,
-    count: usize,
-}
-
 /// Writes, after the areas in which a cell lies by coarser cells, those that have its ancestor at a
-/// resolution and are not among them.
+/// resolution and are not among them. The pairs of the resolution are those between two places.
 fn write_at(
     pairs: &[(Cell, u32)],
     cell: Cell,
     r: u8,
-    from: &Written,
+    from: usize,
+    to: usize,
+    written: usize,
     numbers: &mut [u32],
-) -> Written
+) -> usize
     requires listed { AreListed pairs.now }
     requires valid { IsCell cell }
     requires coarse { r ≤ resolution cell }
-    requires written { IsWritten pairs.now cell r from.now.place from.now.count numbers.old }
-    ensures { IsWritten pairs.now cell (r + 1) result.place result.count numbers.new }
+    requires in_order { from ≤ to }
+    requires end { IsStart pairs.now (r + 1) to }
+    requires written { IsWritten pairs.now cell r from written numbers.old }
+    ensures { IsWritten pairs.now cell (r + 1) to result numbers.new }
 {
     numbers_are_unique();
     cells_form_trees();
@@ -99,9 +135,9 @@ fn write_at(
     coverages_decide_lists();
     let ancestor = cell.ancestor_at(r);
     let number = ancestor.raw();
-    let mut place = first_of(pairs, number, from.place);
-    let mut count = from.count;
-    while place < pairs.len() && pairs[place].0.raw() == number {
+    let mut place = first_between(pairs, number, from, to);
+    let mut count = written;
+    while place < to && pairs[place].0.raw() == number {
         let area = pairs[place].1;
         if !has(&numbers[..count], area) {
             numbers[count] = area;
@@ -109,32 +145,34 @@ fn write_at(
         }
         place += 1;
     }
-    Written { place, count }
+    count
 }
 
-/// Writes the areas in which a cell lies, in their order, resolution by resolution. Resolutions coarser
-/// than that of the next pair are skipped.
-fn write_all(pairs: &[(Cell, u32)], cell: Cell, numbers: &mut [u32]) -> usize
+/// Writes the areas in which a cell lies, in their order, resolution by resolution. Resolutions of which
+/// there are no pairs are skipped.
+fn write_all(
+    pairs: &[(Cell, u32)],
+    starts: &[usize; LEVELS + 1],
+    cell: Cell,
+    numbers: &mut [u32],
+) -> usize
     requires listed { AreListed pairs.now }
+    requires starts { AreStarts pairs.now starts.now }
     requires valid { IsCell cell }
     requires room { length pairs.now ≤ length numbers.old }
     ensures fewer { result ≤ length numbers.new }
     ensures are { AreAreasOf pairs.now cell (take result numbers.new) }
 {
     cells_form_trees();
-    cells_form_intervals();
-    let own = cell.resolution();
-    let mut written = Written { place: 0, count: 0 };
-    let mut r: u8 = 0;
-    while written.place < pairs.len() {
-        let level = r.max(pairs[written.place].0.resolution());
-        if level > own {
-            return written.count;
+    let mut written = 0;
+    for r in 0..cell.resolution() + 1 {
+        let from = starts[usize::from(r)];
+        let to = starts[usize::from(r) + 1];
+        if from < to {
+            written = write_at(pairs, cell, r, from, to, written, numbers);
         }
-        written = write_at(pairs, cell, level, &written, numbers);
-        r = level + 1;
     }
-    written.count
+    written
 }
 
 /// Areas by number, which may overlap, in caller-provided memory. Contracts see the list of pairs of a
@@ -142,18 +180,19 @@ fn write_all(pairs: &[(Cell, u32)], cell: Cell, numbers: &mut [u32]) -> usize
 #[derive(Debug, Drop)]
 pub struct Areas<'a> {
     pairs: &'a [(Cell, u32)],
+    starts: [usize; LEVELS + 1],
 }
 
 impl<'a> Model for Areas<'a> {
     ghost use Rattle.std.specs.Prelude.{ℕ, List};
     ghost use Rattle.h3_index.specs.Cell.{Address};
-    ghost use Rattle.h3_regions.specs.Listed.{AreListed};
+    ghost use Rattle.h3_regions.specs.Listed.{AreListed, AreStarts};
 
     ghost Value = { List (Address × ℕ) };
 
     ghost view = { λ a. a.pairs.now };
 
-    ghost invariant = { λ a. AreListed a.pairs.now };
+    ghost invariant = { λ a. AreListed a.pairs.now × AreStarts a.pairs.now a.starts };
 }
 
 impl<'a> Areas<'a> {
@@ -182,7 +221,8 @@ impl<'a> Areas<'a> {
         have_cells(pairs);
         are_small(pairs);
         put_by_number(pairs);
-        Areas { pairs }
+        let starts = starts_of(pairs);
+        Areas { pairs, starts }
     }
 
     /// Writes the numbers of the areas that the cell lies in to the first places, each once, and
@@ -200,6 +240,6 @@ impl<'a> Areas<'a> {
         cells_form_trees();
         coverages_decide_lists();
         let _number = cell.raw();
-        write_all(self.pairs, cell, numbers)
+        write_all(self.pairs, &self.starts, cell, numbers)
     }
 }

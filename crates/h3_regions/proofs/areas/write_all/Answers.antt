@@ -1,30 +1,23 @@
-use Rattle.std.proofs.Common.{arith, inl, inr}
-use Rattle.h3_regions.proofs.WritingLaws.{all_written, none_written, skipped_to}
+use Rattle.std.proofs.Common.{arith, get_or, ◌+◌}
+use Rattle.h3_regions.proofs.WritingLaws.{all_written, none_between, none_written}
 use Rattle.h3_regions.proofs.areas.write_all.Goals as goal
+use Rattle.h3_regions.proofs.areas.write_all.Goals.{then-from-to, else-from-to}
 
-pub loop-written-init : goal.loop-written-init
-loop-written-init c =
-    (omega arith, none_written c.args.pairs.now c.args.cell c.args.numbers.now c.requires.room)
+pub loop-r-init : goal.loop-r-init
+loop-r-init c =
+    none_written c.args.pairs.now c.args.cell _ c.args.numbers.now c.requires.room (c.requires.starts 0 0 (omega arith))
 
-pub write_at-written-requires-clause-written : goal.write_at-written-requires-clause-written
-write_at-written-requires-clause-written c =
-    skipped_to c.cells_form_intervals.ensures c.args.pairs.now c.requires.listed c.args.cell c.loop-written.r
-    c.max-level.result c.resolution.result c.loop-written.written.place c.loop-written.written.count
-    c.loop-written.numbers c.index-pairs-written.result c.loop-written-test.true c.max-level.ensures
-    c.resolution.ensures.number c.loop-written.invariant.1
-
-pub returns-then-level-own-clause-are : goal.returns-then-level-own-clause-are
-returns-then-level-own-clause-are c =
-    let w =
-    skipped_to c.cells_form_intervals.ensures c.args.pairs.now c.requires.listed c.args.cell c.loop-written.r
-    c.max-level.result c.resolution.result c.loop-written.written.place c.loop-written.written.count
-    c.loop-written.numbers c.index-pairs-written.result c.loop-written-test.true c.max-level.ensures
-    c.resolution.ensures.number c.loop-written.invariant.1 in
-    all_written c.cells_form_trees.ensures c.args.pairs.now c.args.cell c.max-level.result c.loop-written.written.place
-    c.loop-written.written.count c.loop-written.numbers
-    (inl (omega (arith, c.if-level-own.true, c.resolution-own.ensures.number))) w
+pub loop-r-preserved : goal.loop-r-preserved
+loop-r-preserved c = elim c.if-from-to.branch [
+  | then-from-to w ↦ rw (w.numbers-is, w.written-is) (rw c.from-in-loop-r.ensures at w.write_at-written.ensures)
+  | else-from-to w ↦ rw (w.numbers-is, w.written-is) (none_between c.args.pairs.now c.args.cell c.loop-r.r (get_or c.args.starts.now c.loop-r.r 0)
+      (get_or c.args.starts.now (c.loop-r.r + 1) 0) c.loop-r.written c.loop-r.numbers
+      (rw (c.from.ensures, c.from-in-loop-r.ensures) at w.if-from-to.false)
+      (c.requires.starts (c.loop-r.r + 1) 0 (omega (arith, c.loop-r-test.true, c.resolution-r-end.ensures.number, c.requires.valid.coarse)))
+      c.loop-r.invariant)
+]
 
 pub returns-clause-are : goal.returns-clause-are
 returns-clause-are c =
-    all_written c.cells_form_trees.ensures c.args.pairs.now c.args.cell c.loop-written.r c.loop-written.written.place
-    c.loop-written.written.count c.loop-written.numbers (inr c.loop-written-test.false) c.loop-written.invariant.1
+    all_written c.cells_form_trees.ensures c.args.pairs.now c.args.cell c.loop-r.r _ c.loop-r.written c.loop-r.numbers
+    (omega (arith, c.loop-r-test.false, c.resolution-r-end.ensures.number)) c.loop-r.invariant

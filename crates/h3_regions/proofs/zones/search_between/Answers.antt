@@ -1,13 +1,8 @@
 use Rattle.std.specs.Int.{from_bool}
-use Rattle.std.proofs.Common.{◌≡◌, ◌/◌, [], ◌∷◌, Bool, true, false, nat_lt, get_or, refl, arith, ◌∙◌, ap}
+use Rattle.std.proofs.Common.{◌≡◌, ◌/◌, [], ◌∷◌, nat_lt, get_or, arith, ◌∙◌, ap}
 use Rattle.h3_tree.specs.PostOrder.{post_order_key}
-use Rattle.h3_regions.proofs.SearchLaws.{narrowed}
+use Rattle.h3_regions.proofs.SearchLaws.{half_at, narrowed}
 use Rattle.h3_regions.proofs.zones.search_between.Goals as goal
-
--- the table of halves has at 0 and at 1 these themselves
-half_at : (b : Bool) → get_or (0 ∷ 1 ∷ []) (from_bool b) 0 ≡ from_bool b
-half_at true = refl
-half_at false = refl
 
 pub loop-size-preserved : goal.loop-size-preserved
 loop-size-preserved c =
