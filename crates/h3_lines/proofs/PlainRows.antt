@@ -2,26 +2,56 @@
 use Rattle.std.specs.Char.{is_digit}
 use Rattle.std.specs.List.{list_all}
 use Rattle.std.proofs.Common.{◌≡◌, ℕ, ◌+◌, ◌-◌, ◌<◌, ◌≤◌, Bool, false, true, List, [], ◌∷◌, ◌++◌, length, take, drop, get_or, Option, None, Some, Result, Ok, Err, IfOk, IfNone, sym, ap, ◌∙◌, refl, subst, append_assoc, length-append, length-take, arith}
-use Rattle.std.proofs.lemmas.List.{take_rest}
+use Rattle.std.proofs.lemmas.List.{take_more, take_rest}
 use Rattle.h3_index.specs.Text.{parsed_index}
 use Rattle.h3_lines.specs.PiecesLaws.{cut_at_mark, rows_go}
-use Rattle.h3_lines.specs.Pieces.{Piece, pieces_of, rows_of}
+use Rattle.h3_lines.specs.Pieces.{Piece, Uncut, pieces_of, rows_of}
 use Rattle.h3_lines.specs.Splitting.{BeginsLines, BeginsPlain, Goes, ParseAll, ParsesAs}
 use Rattle.h3_lines.specs.declared.run_error.RunError.{RunError}
-use Rattle.h3_lines.proofs.PlainLines.{digits_uncut}
+use Rattle.h3_lines.proofs.PlainLines.{digits_uncut, returned_uncut}
 use Rattle.h3_lines.specs.ScanLaws.{split_at}
+
+-- a line without line feeds and quotes, and a line feed
+begins_line : (bytes : List ℕ) (at index : ℕ) → at < length bytes → at ≤ 64 → get_or bytes at 0 ≡ 10
+    → ((q : Bool) → Uncut 10 q false (take at bytes) false) → parsed_index (take at bytes) ≡ Some index
+    → BeginsPlain bytes index (take (length bytes - (at + 1)) (drop (at + 1) bytes))
+begins_line bytes at index within short feed uncut parses =
+    record {
+      line = take at bytes;
+      uncut = uncut;
+      split = rw (take_rest bytes (at + 1)) (split_at bytes at 10 within feed);
+      parses = record { short = omega (arith, short, length-take at bytes); parses = parses };
+    }
 
 -- fifteen digits and a line feed
 pub begins_plain : (bytes : List ℕ) (index : ℕ) → 15 < length bytes → get_or bytes 15 0 ≡ 10
     → list_all (λ b. is_digit b 16) (take 15 bytes) ≡ true → parsed_index (take 15 bytes) ≡ Some index
     → BeginsPlain bytes index (take (length bytes - 16) (drop 16 bytes))
 begins_plain bytes index within feed digits parses =
-    record {
-      line = take 15 bytes;
-      uncut = λ q. digits_uncut q (take 15 bytes) digits;
-      split = rw (take_rest bytes 16) (split_at bytes 15 10 within feed);
-      parses = record { short = omega (arith, length-take {A = ℕ}); parses = parses };
-    }
+    begins_line bytes 15 index within (omega arith) feed (λ q. digits_uncut 16 refl refl q (take 15 bytes) digits) parses
+
+-- digits and letters, and a line feed
+pub begins_letters : (bytes : List ℕ) (at index : ℕ) → at < length bytes → at ≤ 18 → get_or bytes at 0 ≡ 10
+    → list_all (λ b. is_digit b 36) (take at bytes) ≡ true → parsed_index (take at bytes) ≡ Some index
+    → BeginsPlain bytes index (take (length bytes - (at + 1)) (drop (at + 1) bytes))
+begins_letters bytes at index within short feed letters parses =
+    begins_line bytes at index within (omega (arith, short)) feed
+    (λ q. digits_uncut 36 refl refl q (take at bytes) letters) parses
+
+-- digits and letters, a carriage return and a line feed
+pub begins_returned : (bytes : List ℕ) (at index : ℕ) → at < length bytes → at ≤ 18 → 0 < at → get_or bytes at 0 ≡ 10
+    → get_or bytes (at - 1) 0 ≡ 13 → list_all (λ b. is_digit b 36) (take (at - 1) bytes) ≡ true
+    → parsed_index (take (at - 1) bytes ++ 13 ∷ []) ≡ Some index
+    → BeginsPlain bytes index (take (length bytes - (at + 1)) (drop (at + 1) bytes))
+begins_returned bytes at index within short some feed returned letters parses =
+    let next : at - 1 + 1 ≡ at = omega (arith, some) in
+    let line : take at bytes ≡ take (at - 1) bytes ++ 13 ∷ [] =
+    ap (λ n. take n bytes) (sym next) ∙ take_more bytes (at - 1) 0 (omega (arith, within))
+    ∙ ap (λ b. take (at - 1) bytes ++ b ∷ []) returned in
+    begins_line bytes at index within (omega (arith, short)) feed
+    (λ q. subst (λ l. Uncut 10 q false l false) (sym line)
+    (returned_uncut 36 refl refl q (take (at - 1) bytes) letters))
+    (ap parsed_index line ∙ parses)
 
 pub plain_shorter : (bytes after : List ℕ) (index : ℕ) → BeginsPlain bytes index after → length after < length bytes
 plain_shorter bytes after index p =

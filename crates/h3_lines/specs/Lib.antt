@@ -24,4 +24,5 @@ pub mod SplittingLaws
 pub mod Stop
 pub mod Taking
 pub mod TakingLaws
+pub mod Text
 pub mod Write

@@ -4,6 +4,7 @@ ghost use Rattle.std.specs.Prelude.{◌≡◌, ◌++◌, ◌∷◌, [], ℕ, Boo
 ghost use Rattle.h3_lines.specs.Answer.{Answer, refused, written};
 ghost use Rattle.h3_lines.specs.EachLine.{EndsEach};
 ghost use Rattle.h3_lines.specs.Pieces.{Uncut};
+ghost use Rattle.h3_lines.specs.Text.{text_in};
 ghost use Rattle.h3_lines.specs.Write.{sink_use};
 
 use crate::each::{Answering, Output, answer_pages, stop};
@@ -11,7 +12,8 @@ use crate::plain::LINES;
 use crate::run_error::RunError;
 use crate::splitting::{LONGEST_LINE, PAGE, row_page};
 use crate::stop::Stop;
-use crate::write::put_text;
+use crate::text::Text;
+use crate::write::put_answer_text;
 use h3_index::H3Error;
 use h3_streams::{Sink, Source};
 use std::alloc::Global;
@@ -31,11 +33,11 @@ pub trait TextFunction {
     /// # Errors
     ///
     /// The answer's error.
-    fn text(&self, index: Option<u64>, place: &mut usize) -> Result<&[u8], H3Error>
+    fn text(&self, index: Option<u64>, place: &mut usize) -> Result<Text<'_>, H3Error>
         ensures ok { IfOk result (λ text.
-            answer_of self.now index ≡ written (text.now ++ 10 ∷ [])) }
+            answer_of self.now index ≡ written (text_in text ++ 10 ∷ [])) }
         ensures line { IfOk result (λ text.
-            Uncut 10 (counts_quotes self.now) false text.now false) }
+            Uncut 10 (counts_quotes self.now) false (text_in text) false) }
         ensures err { IfErr result (λ e. answer_of self.now index ≡ refused e) };
 
     /// Whether it looks for the indexes of plain lines together: `look_ahead` is then asked for their
@@ -71,6 +73,7 @@ impl<'f, F: TextFunction> Answering for Texts<'f, F> {
 
     ghost needs = { λ f. 0 };
 
+    #[inline(always)]
     fn answer<'a, W: Sink>(
         &self,
         index: Option<u64>,
@@ -79,7 +82,7 @@ impl<'f, F: TextFunction> Answering for Texts<'f, F> {
     ) -> Result<(), Stop> {
         match self.function.text(index, &mut held.place) {
             Ok(text) => {
-                held.end = put_text(held.out, &mut held.block, held.end, text)?;
+                held.end = put_answer_text(held.out, &mut held.block, held.end, text)?;
                 held.number += 1;
                 Ok(())
             }

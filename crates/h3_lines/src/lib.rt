@@ -15,6 +15,7 @@ mod run_error;
 mod splitting;
 mod stop;
 mod taking;
+mod text;
 mod write;
 
 pub use each::{AnswerLine, answer_each, put_result, refuse};
@@ -29,7 +30,8 @@ pub use run_error::{AnswerError, CellFile, ColumnError, Fault, RowError, RowFaul
 pub use splitting::{
     Job, JobContract, MAX_READS, PAGE, drive, drive_to_end, lengthen, row_page, split, take_last,
 };
-pub use taking::{CellFunction, CellJob, Itself, take_cells, take_cells_as};
+pub use taking::{CellJob, CellOf, Itself, take_cells, take_cells_as};
+pub use text::{SHORT, Text};
 pub use write::{
     CellLines, write_all, write_answer, write_cells_lines, write_held, write_lines, write_result,
     write_walk,

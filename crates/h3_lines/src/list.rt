@@ -9,13 +9,13 @@ ghost use Rattle.h3_lines.specs.Reads.{source_use};
 
 use crate::run_error::{AnswerError, Fault, RunError};
 use crate::splitting::{LONGEST_LINE, MAX_READS, PAGE, row_page};
-use crate::taking::{CellFunction, CellJob, Itself, take_cells, take_list};
+use crate::taking::{CellJob, CellOf, Itself, take_cells, take_list};
 use h3_index::{Cell, H3Error, is_blank_text, read_index};
 use h3_streams::Source;
 use std::alloc::Global;
 
 /// What is taken for the index of a line, nothing where it is blank, or the error of a faulty line.
-pub(crate) fn read_line<F: CellFunction>(function: &F, line: &[u8]) -> Result<Option<Cell>, H3Error>
+pub(crate) fn read_line<F: CellOf>(function: &F, line: &[u8]) -> Result<Option<Cell>, H3Error>
     ensures { result ≡ said_as (F.says function.now) line.now }
 {
     if line.len() > LONGEST_LINE {

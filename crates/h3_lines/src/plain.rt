@@ -1,6 +1,7 @@
-//! Plain lines: fifteen digits in lower case, which are read without a search for their end.
+//! Plain lines: fifteen digits in lower case, which are read without a search for their end; and lines of as many digits
+//! in capitals, with a prefix or with a carriage return.
 
-ghost use Rattle.std.specs.Prelude.{◌≡◌, ◌≤◌, ◌<◌, ◌+◌, ◌^◌, ◌++◌, ◌∷◌, [], Bool, ℕ, List, length, take, IfOk, IfErr, IfSome, IfNone, OnOk};
+ghost use Rattle.std.specs.Prelude.{◌≡◌, ◌≤◌, ◌<◌, ◌+◌, ◌^◌, ◌++◌, ◌∷◌, [], Bool, ℕ, List, get_or, length, take, IfOk, IfErr, IfSome, IfNone, OnOk};
 ghost use Rattle.h3_lines.specs.Pieces.{Piece, rows_of};
 ghost use Rattle.h3_lines.specs.Splitting.{BeginsLines, BeginsPlain, Goes, ParseAll, ParsesAs};
 ghost use Rattle.h3_lines.specs.Stop.{stopped_at};
@@ -8,7 +9,7 @@ ghost use Rattle.h3_lines.specs.Stop.{stopped_at};
 use crate::run_error::RunError;
 use crate::splitting::JobContract;
 use crate::stop::Stop;
-use h3_index::read_plain;
+use h3_index::{read_plain, read_trimmed};
 
 /// The digits of a plain line: those of a cell's index.
 const PLAIN: usize = 15;
@@ -54,6 +55,68 @@ pub(crate) fn plain_line(bytes: &[u8]) -> Option<(u64, &[u8])>
     }
     let index = read_plain(&bytes[..PLAIN])?;
     Some((index, &bytes[PLAIN + 1..]))
+}
+
+/// The place of the line feed after the digits of a cell's index, which may have a prefix and a carriage
+/// return.
+#[inline(always)]
+fn feed_place(bytes: &[u8]) -> Option<usize>
+    ensures within { IfSome result (λ at. at < length bytes.now) }
+    ensures feed { IfSome result (λ at. get_or bytes.now at 0 ≡ 10) }
+    ensures some { IfSome result (λ at. 0 < at) }
+    ensures short { IfSome result (λ at. at ≤ 18) }
+{
+    for at in PLAIN..PLAIN + 4 {
+        if at < bytes.len() && bytes[at] == b'\n' {
+            return Some(at);
+        }
+    }
+    None
+}
+
+/// The index of the line that bytes begin with, if it is a cell's in capitals, with a prefix or with a carriage
+/// return, and the bytes after it. `None` may be answered to any other.
+#[inline(always)]
+fn trimmed_line(bytes: &[u8]) -> Option<(u64, &[u8])>
+    ensures { IfSome result (λ p. BeginsPlain bytes.now p.0 p.1.now) }
+{
+    let end = feed_place(bytes)?;
+    let after = &bytes[end + 1..];
+    if bytes[end - 1] == b'\r' {
+        let index = read_trimmed(&bytes[..end - 1])?;
+        return Some((index, after));
+    }
+    let index = read_trimmed(&bytes[..end])?;
+    Some((index, after))
+}
+
+/// Has the lines taken that bytes begin with, up to 16, as far as `trimmed_line` reads them, and returns the
+/// bytes after them; `None` if it does not read the first.
+// A call, so that plain lines find all they need in registers. No more than 16, since plain ones may follow, which it
+// reads too, but more slowly.
+#[inline(never)]
+fn take_trimmed<'b, J: IndexJob>(job: &mut J, bytes: &'b [u8]) -> Result<Option<&'b [u8]>, RunError>
+    requires { J.count job.old + length bytes.now < 2 ^ 63 }
+    ensures some { (quotes : Bool) → IfOk result (λ o. IfSome o (λ left.
+        Goes quotes J.taken job.old [] bytes.now job.new [] left.now)) }
+    ensures fewer { IfOk result (λ o. IfSome o (λ left. length left.now + 1 ≤ length bytes.now)) }
+    ensures counted { IfOk result (λ o. IfSome o (λ left.
+        J.count job.new + length left.now ≤ J.count job.old + length bytes.now)) }
+    ensures none { IfOk result (λ o. IfNone o (job.new ≡ job.old)) }
+    ensures err { IfErr result (λ e. (quotes : Bool) (rest : List ℕ) →
+        J.refused job.old (rows_of quotes (bytes.now ++ rest)) job.new e) }
+{
+    let mut left = bytes;
+    for _ in 0..LINES {
+        let Some((index, after)) = trimmed_line(left) else {
+            break;
+        };
+        if let Err(why) = job.take_index(index, None) {
+            return Err(why.at(job.line()));
+        }
+        left = after;
+    }
+    Ok((left.len() < bytes.len()).then_some(left))
 }
 
 /// Reads the indexes of the plain lines that bytes begin with, at most 16. Returns how many they are,
@@ -135,8 +198,8 @@ fn take_indexes<J: IndexJob>(job: &mut J, indexes: &[u64]) -> Result<(), Stop>
     }
 }
 
-/// Has the plain lines taken that bytes begin with, up to 16 together, and returns the bytes after them;
-/// `None` if they begin with no plain line.
+/// Has the plain lines taken that bytes begin with, up to 16 together, or else lines that
+/// `trimmed_line` reads. Returns the bytes after them; `None` if they begin with neither.
 fn take_together<'b, J: IndexJob>(
     job: &mut J,
     bytes: &'b [u8],
@@ -154,7 +217,7 @@ fn take_together<'b, J: IndexJob>(
     let mut indexes = [0; LINES];
     let (count, after) = plain_lines(bytes, &mut indexes);
     if count == 0 {
-        return Ok(None);
+        return take_trimmed(job, bytes);
     }
     match take_indexes(job, &indexes[..count]) {
         Ok(()) => Ok(Some(after)),
@@ -163,7 +226,8 @@ fn take_together<'b, J: IndexJob>(
 }
 
 /// Has the plain lines taken that bytes begin with, all of them, or up to 16 that are looked up together,
-/// and returns the bytes after them; `None` if they begin with no plain line.
+/// or else lines that `trimmed_line` reads. Returns the bytes after them; `None` if they begin with
+/// neither.
 #[inline(always)]
 pub(crate) fn take_plain<'b, J: IndexJob>(
     job: &mut J,
@@ -189,5 +253,8 @@ pub(crate) fn take_plain<'b, J: IndexJob>(
         }
         left = after;
     }
-    Ok((left.len() < bytes.len()).then_some(left))
+    if left.len() < bytes.len() {
+        return Ok(Some(left));
+    }
+    take_trimmed(job, bytes)
 }

@@ -26,7 +26,7 @@ use std::alloc::Global;
 
 /// What is taken for the index of each line, or row, of a list: a cell; nothing, and the line is passed over; or an
 /// error.
-pub trait CellFunction {
+pub trait CellOf {
     /// What is taken for an index.
     ghost says: { Self → Says };
 
@@ -39,7 +39,7 @@ pub trait CellFunction {
 #[derive(Drop)]
 pub struct Itself;
 
-impl CellFunction for Itself {
+impl CellOf for Itself {
     ghost says = { λ f. itself };
 
     #[inline(always)]
@@ -116,14 +116,14 @@ fn push_parsed<V: CellJob>(
 
 /// A job over lines that gives the cells on them to a job over cells. It knows the number of the next line.
 #[derive(Drop)]
-struct LineCells<F: CellFunction, V: CellJob> {
+struct LineCells<F: CellOf, V: CellJob> {
     function: F,
     job: V,
     number: u64,
     ghost few: { V.count job ≤ number },
 }
 
-impl<F: CellFunction, V: CellJob> JobContract for LineCells<F, V> {
+impl<F: CellOf, V: CellJob> JobContract for LineCells<F, V> {
     ghost longest = { LONGEST_LINE };
 
     ghost count = { λ v. v.number };
@@ -160,7 +160,7 @@ impl<F: CellFunction, V: CellJob> JobContract for LineCells<F, V> {
         p.0 e p.1 q };
 }
 
-impl<F: CellFunction, V: CellJob> IndexJob for LineCells<F, V> {
+impl<F: CellOf, V: CellJob> IndexJob for LineCells<F, V> {
     // The line after it is the next.
     ghost line = { λ v. v.number - 1 };
 
@@ -185,7 +185,7 @@ impl<F: CellFunction, V: CellJob> IndexJob for LineCells<F, V> {
     }
 }
 
-impl<F: CellFunction, V: CellJob> Job for LineCells<F, V> {
+impl<F: CellOf, V: CellJob> Job for LineCells<F, V> {
     fn take(&mut self, line: &[u8], _inside: bool) -> Result<(), RunError> {
         let number = self.number;
         self.number += 1;
@@ -206,7 +206,7 @@ impl<F: CellFunction, V: CellJob> Job for LineCells<F, V> {
 }
 
 /// Has the cells of a list taken, in at most `limit` reads of at most `size` bytes each.
-pub(crate) fn take_list<F: CellFunction + Drop, V: CellJob + Drop, R: Source>(
+pub(crate) fn take_list<F: CellOf + Drop, V: CellJob + Drop, R: Source>(
     function: F,
     job: V,
     input: &mut R,
@@ -248,7 +248,7 @@ pub(crate) fn take_list<F: CellFunction + Drop, V: CellJob + Drop, R: Source>(
 /// # Errors
 ///
 /// As of `take_cells`; the error of a line that has an index is what the function says.
-pub fn take_cells_as<F: CellFunction + Drop, V: CellJob + Drop, R: Source>(
+pub fn take_cells_as<F: CellOf + Drop, V: CellJob + Drop, R: Source>(
     alloc: Global,
     function: F,
     job: V,

@@ -9,10 +9,12 @@ ghost use Rattle.h3_index.specs.declared.error.H3Error.{H3Error};
 ghost use Rattle.h3_lines.specs.Answer.{before, printed, refused, walked, written};
 ghost use Rattle.h3_lines.specs.Answering.{Breaks, FailsPush, Moves};
 ghost use Rattle.h3_lines.specs.EachLines.{GivesLines};
+ghost use Rattle.h3_lines.specs.Text.{text_in};
 ghost use Rattle.h3_lines.specs.Write.{AppendsPart, Takes, Writes, sink_use};
 
 use crate::line::{ANSWER, BLOCK, Line, put_ended};
 use crate::run_error::{AnswerError, RunError};
+use crate::text::{SHORT, Text};
 use h3_index::{Cell, H3Error};
 use h3_streams::{Sink, StreamFault};
 
@@ -165,6 +167,28 @@ pub(crate) fn put_text<W: Sink>(
     }
     write_all(out, text)?;
     Ok(put_ended(block, 0, b"", 0, b'\n'))
+}
+
+/// As `put_text`. A short text is copied faster if more bytes are behind it.
+#[inline(always)]
+pub(crate) fn put_answer_text<W: Sink>(
+    out: &mut W,
+    block: &mut [u8; BLOCK],
+    end: usize,
+    text: Text<'_>,
+) -> Result<usize, StreamFault>
+    requires { end ≤ BLOCK }
+    ensures within { IfOk result (λ last. last ≤ BLOCK) }
+    ensures ok { IfOk result (λ last.
+        Moves W.taken W.has_failed (take end block.old ++ (text_in text.entry ++ 10 ∷ []))
+        (take last block.new) out.old out.new) }
+    ensures err { OnErr result (FailsPush (take end block.old ++ (text_in text.entry ++ 10 ∷ []))
+        (sink_use W.taken W.has_failed out.old out.new)) }
+{
+    if text.count < (BLOCK - end).saturating_sub(SHORT) {
+        return Ok(text.put(block, end, b'\n'));
+    }
+    put_text(out, block, end, text.own_bytes())
 }
 
 /// Writes a line for each item of an iterator that ends, and flushes. No item is kept, and no more

@@ -28,3 +28,7 @@ pub returns-in-Err-clause-err : goal.returns-in-Err-clause-err
 returns-in-Err-clause-err g c q rest =
     rw (c.at.ensures, c.line.ensures) (goes_refused q g.J.JobContract.taken g.J.JobContract.refused g.met.J.JobContract.refused_then rest (c.loop-index.invariant.goes q)
     (refused_plain g.J.JobContract.refused q c.loop-index.left.now c.in-Some.after.now rest c.in-Some.index c.in-Some.ensures c.in-Err.ensures.err))
+
+pub returns-clause-some : goal.returns-clause-some
+returns-clause-some g c q =
+    rw (c.loop-index.invariant.same (omega (arith, c.if-left-bytes.false))) at (c.take_trimmed.ensures.some q)

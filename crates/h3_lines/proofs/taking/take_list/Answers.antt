@@ -11,7 +11,7 @@ returns-clause-taken g c =
     let all = rw (c.new-reader.ensures.source, c.new-reader.ensures.limit) at c.in_ok-read.ensures.ok in
     let sound = rw c.new-reader.ensures.source at c.in_ok-read.ensures.sound in
     let read =
-    list_read (λ v. (g.F.CellFunction.says v.function, v.number))
+    list_read (λ v. (g.F.CellOf.says v.function, v.number))
     (λ v cells w. g.V.CellJob.taken v.job cells w.job) _ _ input c.args.limit _ all sound in
     search (rules, read, c.drive-read.ensures.same)
 
@@ -21,6 +21,6 @@ returns-in_err-read-clause-refused g c =
     let input = source_use g.R.Source.left g.R.Source.has_failed c.args.input.now (source_of c.drive-read.new.reader) in
     let stops = rw (c.new-reader.ensures.source, c.new-reader.ensures.limit) at c.in_err-read.ensures.err in
     let refused =
-    list_refused (λ v. (g.F.CellFunction.says v.function, v.number))
+    list_refused (λ v. (g.F.CellOf.says v.function, v.number))
     (λ v cells w. g.V.CellJob.taken v.job cells w.job) _ _ _ input c.args.limit _ refl stops in
     rw (p.1, p.2) (search (rules, refused, c.drive-read.ensures.same))

@@ -1,8 +1,7 @@
-use Rattle.std.proofs.Common.{◌≡◌, ◌<◌, ◌∷◌, [], ◌++◌, ℕ, List, length, take, take_all, arith, length-append, ap, ◌∙◌, sym}
+use Rattle.std.proofs.Common.{◌<◌, ◌∷◌, [], ◌++◌, ℕ, List, length, take, take_all, arith, length-append, ap, ◌∙◌, sym}
 use Rattle.std.proofs.lemmas.Result.{err_from_is_err_and}
 use Rattle.h3_lines.specs.Answering.{Moves}
 use Rattle.h3_lines.specs.EachLaws.{beginning_longer, moves_all, moves_none, moves_put, moves_then, push_then}
-use Rattle.h3_lines.specs.Write.{sink_use}
 use Rattle.h3_lines.proofs.write.put_text.Goals as goal
 
 pub returns-then-text-end-clause-ok : goal.returns-then-text-end-clause-ok
