@@ -1,8 +1,9 @@
 -- Rows of whole fields.
 use Rattle.std.proofs.Common.{◌≡◌, ℕ, suc, ◌+◌, ◌-◌, ◌<◌, ◌≤◌, ◌==◌, Bool, true, false, List, [], ◌∷◌, ◌++◌, length, take, drop, get_or, replicate, take-append-drop, Some, sym, ap, ◌∙◌, refl, subst, append_assoc, length-append, length-drop, length-take-le, arith}
-use Rattle.std.proofs.Math.Seq.{take-append-add}
+use Rattle.std.proofs.Math.Seq.{drop-append-add, take-append-add}
+use Rattle.std.proofs.lemmas.List.{get_or-append-add}
 use Rattle.std.proofs.lemmas.Bool.Decides.{nat_tests}
-use Rattle.h3_rows.specs.Plain.{BeginsWhole, EndsPlain, IsPlainRow, IsWhole, IsWholeRow, PassesFields}
+use Rattle.h3_rows.specs.Plain.{BeginsWhole, EndsField, EndsPlain, IsPlainRow, IsWhole, IsWholeRow, PassesFields}
 use Rattle.h3_rows.specs.RowsAnswer.{is_as_wide}
 use Rattle.h3_rows.specs.declared.state.Columns.{Columns}
 use Rattle.h3_lines.specs.Pieces.{CutsAt, cut}
@@ -20,6 +21,7 @@ module _ (separator : ℕ) (quotes : Bool) (quote : (34 == separator) ≡ false)
         split = refl;
         whole = whole_none separator quotes quote;
         passed = λ more. refl;
+        later = λ n more. refl;
         counted = λ more. omega arith;
       }
 
@@ -49,6 +51,12 @@ module _ (separator : ℕ) (quotes : Bool) (quote : (34 == separator) ≡ false)
             ∙ p.passed (field ++ separator ∷ more)
             ∙ field_passed separator quotes (field ++ separator ∷ more) field more left some
             (record { begins = whole.uncut; split = refl });
+        later =
+            λ n more. ap (λ l. piece_at (before + n) (cut separator quotes false l)) (joined more)
+            ∙ p.later n (field ++ separator ∷ more)
+            ∙ field_passed separator quotes (field ++ separator ∷ more) field more (left + n) (omega (arith, some))
+            (record { begins = whole.uncut; split = refl })
+            ∙ ap (λ k. piece_at k (cut separator quotes false more)) (omega (arith, some));
         counted =
             λ more. omega (
               arith,
@@ -71,6 +79,8 @@ module _ (separator : ℕ) (quotes : Bool) (quote : (34 == separator) ≡ false)
         whole = whole_append separator quotes quote p.front q.front p.whole q.whole;
         passed = λ more. ap (λ l. piece_at before (cut separator quotes false l)) (joined more)
             ∙ p.passed (q.front ++ more) ∙ q.passed more;
+        later = λ n more. ap (λ l. piece_at (before + n) (cut separator quotes false l)) (joined more)
+            ∙ p.later n (q.front ++ more) ∙ q.later n more;
         counted = λ more. omega (
           arith,
           ap (λ l. length (cut separator quotes false l)) (joined more),
@@ -78,6 +88,36 @@ module _ (separator : ℕ) (quotes : Bool) (quote : (34 == separator) ≡ false)
           q.counted more,
         );
       }
+
+  -- one field more is passed over where the separator ends it
+  passes_on : (before : ℕ) (bytes rest : List ℕ) → PassesFields separator quotes before 0 bytes rest
+      → PassesFields separator quotes (before + 1) 1 bytes rest
+  passes_on before bytes rest p = record {
+    front = p.front;
+    split = p.split;
+    whole = p.whole;
+    passed = λ more. p.later 1 more;
+    later = λ n more. ap (λ k. piece_at k (cut separator quotes false (p.front ++ more))) (omega arith)
+        ∙ p.later (1 + n) more ∙ ap (λ k. piece_at k (cut separator quotes false more)) (omega arith);
+    counted = λ more. omega (arith, p.counted more);
+  }
+
+  pub ends_field : (before end : ℕ) (bytes rest : List ℕ) → PassesFields separator quotes before 0 bytes rest
+      → end < length rest → IsWhole separator quotes (take end rest)
+      → EndsField separator quotes before bytes (length bytes - length rest + end)
+  ends_field before end bytes rest p inside whole within mark =
+      let long : length bytes ≡ length p.front + length rest = ap length p.split ∙ length-append p.front rest in
+      let place : length bytes - length rest + end ≡ length p.front + end = omega (arith, long) in
+      let here : get_or rest end 0 ≡ separator =
+      sym (ap (λ l. get_or l (length p.front + end) 0) p.split ∙ get_or-append-add p.front rest end 0)
+      ∙ ap (λ n. get_or bytes n 0) (sym place) ∙ mark in
+      let next : length bytes - length rest + end + 1 ≡ length p.front + (end + 1) = omega (arith, place) in
+      let after : drop (length bytes - length rest + end + 1) bytes ≡ drop (end + 1) rest =
+      ap (λ n. drop n bytes) next ∙ ap (drop (length p.front + (end + 1))) p.split
+      ∙ drop-append-add p.front rest (end + 1) in
+      subst (PassesFields separator quotes (before + 1) 0 bytes) (sym after)
+      (passes_more (before + 1) 1 bytes rest (take end rest) (drop (end + 1) rest) (omega arith)
+      (passes_on before bytes rest p) (split_at rest end separator inside here) whole)
 
   -- ---- whole fields up to a line end
 
@@ -245,6 +285,18 @@ module _ (separator : ℕ) (quotes : Bool) (quote : (34 == separator) ≡ false)
       ap (λ l. piece_at before (cut separator quotes false l)) row ∙ p.passed (take end rest ++ separator ∷ tail)
       ∙ field_here separator quotes (take end rest ++ separator ∷ tail) (take end rest) tail 0 refl
       (record { begins = whole.uncut; split = refl })
+
+  -- a field that is found after others that are passed over
+  pub later_field : (before more size : ℕ) (bytes rest field : List ℕ)
+      → PassesFields separator quotes before 0 bytes rest → length bytes - length rest ≤ size
+      → piece_at more (cut separator quotes false (take (size - (length bytes - length rest)) rest)) ≡ Some field
+      → piece_at (before + more) (cut separator quotes false (take size bytes)) ≡ Some field
+  later_field before more size bytes rest field p within is =
+      let part = size - (length bytes - length rest) in
+      ap (λ l. piece_at (before + more) (cut separator quotes false l))
+      (first_bytes before 0 part size bytes rest p (omega (arith, within)))
+      ∙ p.later more (take part rest) ∙ ap (λ k. piece_at k (cut separator quotes false (take part rest))) (omega arith)
+      ∙ is
 
   -- the row that bytes begin with
   pub plain_row : (columns : Columns) (bytes rest : List ℕ) (end last returns : ℕ)

@@ -1,6 +1,6 @@
 -- Rows with whole fields alone, found by a look at sixteen bytes at once. Private contracts and proofs alone cite this
 -- file.
-use Rattle.std.specs.Prelude.{◌≡◌, ℕ, ◌+◌, ◌<◌, ◌≤◌, ◌==◌, ◌||◌, Bool, true, false, not, List, ◌∷◌, ◌++◌, length, replicate, take, None, Ok, Some, if◌then◌else◌}
+use Rattle.std.specs.Prelude.{◌≡◌, ℕ, ◌+◌, ◌<◌, ◌≤◌, ◌==◌, ◌||◌, Bool, true, false, not, List, ◌∷◌, ◌++◌, drop, get_or, length, replicate, take, None, Ok, Some, if◌then◌else◌}
 use Rattle.h3_index.specs.Cell.{Address}
 use Rattle.h3_index.specs.Text.{parsed_index}
 use Rattle.std.specs.List.{count_by, list_all}
@@ -58,8 +58,15 @@ pub record PassesFields (separator : ℕ) (quotes : Bool) (before left : ℕ) (b
   pub whole : AreWhole separator quotes front
   pub passed : (more : List ℕ)
       → piece_at before (cut separator quotes false (front ++ more)) ≡ piece_at left (cut separator quotes false more)
+  pub later : (n : ℕ) (more : List ℕ) → piece_at (before + n) (cut separator quotes false (front ++ more))
+      ≡ piece_at (left + n) (cut separator quotes false more)
   pub counted : (more : List ℕ)
       → length (cut separator quotes false (front ++ more)) + left ≡ before + length (cut separator quotes false more)
+
+-- where the separator is at this place, the bytes before it are so many whole fields and one more
+abbrev pub EndsField : ℕ → Bool → ℕ → List ℕ → ℕ → Type 0
+EndsField separator quotes before bytes end = end < length bytes → get_or bytes end 0 ≡ separator
+    → PassesFields separator quotes (before + 1) 0 bytes (drop (end + 1) bytes)
 
 -- from its cell's field on, which has `end` bytes, a row of whole fields has `last` bytes, and it has as many fields as
 -- it should

@@ -262,7 +262,7 @@ pub(crate) fn put_plain<'f, F: RowFunction>(
 {
     let separator = job.options.separator;
     let quotes = job.options.quotes;
-    let (row, field) = find_plain(separator, quotes, columns, bytes)?;
+    let (row, field, _) = find_plain(separator, quotes, columns, bytes)?;
     let index = read_plain_field(quotes, field)?;
     // A byte order mark is before the first row alone.
     if state.number == 1 || row.body.is_empty() || job.options.shows_errors {

@@ -22,15 +22,15 @@ use crate::row_cell::RowCell;
 use crate::state::{Columns, RowState, first_state};
 use h3_index::Cell;
 use h3_lines::{
-    AnswerError, CellFunction, CellJob, ColumnError, Itself, Job, JobContract, MAX_READS, PAGE,
-    RowError, RowFault, RunError, drive, row_page,
+    AnswerError, CellJob, CellOf, ColumnError, Itself, Job, JobContract, MAX_READS, PAGE, RowError,
+    RowFault, RunError, drive, row_page,
 };
 use h3_requests::{CellField, RowOptions};
 use h3_streams::{CountedReader, Source};
 use std::alloc::Global;
 
 /// What is taken for the cell of a row, `None` if it is missing.
-pub(crate) fn read_cell<F: CellFunction>(
+pub(crate) fn read_cell<F: CellOf>(
     function: &F,
     options: &RowOptions,
     number: u64,
@@ -50,7 +50,7 @@ pub(crate) fn read_cell<F: CellFunction>(
 }
 
 /// What is taken for the cell of a row, if it has one, and the state after it; or the error that ends the list.
-fn find_cell<F: CellFunction>(
+fn find_cell<F: CellOf>(
     function: &F,
     options: &RowOptions,
     state: RowState,
@@ -89,7 +89,7 @@ fn find_cell<F: CellFunction>(
 
 /// A job over rows that gives their cells to a job over cells. It knows the state before the next row.
 #[derive(Drop)]
-struct RowCells<'f, F: CellFunction, V: CellJob> {
+struct RowCells<'f, F: CellOf, V: CellJob> {
     function: F,
     job: V,
     options: &'f RowOptions,
@@ -97,7 +97,7 @@ struct RowCells<'f, F: CellFunction, V: CellJob> {
     ghost few: { V.count job ≤ state.number },
 }
 
-impl<'f, F: CellFunction, V: CellJob> JobContract for RowCells<'f, F, V> {
+impl<'f, F: CellOf, V: CellJob> JobContract for RowCells<'f, F, V> {
     ghost longest = { LONGEST };
 
     ghost count = { λ v. v.state.number };
@@ -140,7 +140,7 @@ impl<'f, F: CellFunction, V: CellJob> JobContract for RowCells<'f, F, V> {
         (form_as (F.says v.function) v.options.now, v.state) xs ys p.0 e p.1 q };
 }
 
-impl<'f, F: CellFunction, V: CellJob> Job for RowCells<'f, F, V> {
+impl<'f, F: CellOf, V: CellJob> Job for RowCells<'f, F, V> {
     fn take(&mut self, row: &[u8], inside: bool) -> Result<(), RunError> {
         match find_cell(
             &self.function,
@@ -205,7 +205,7 @@ fn end_rows(options: &RowOptions, state: RowState) -> Result<(), AnswerError>
 }
 
 /// Has the cells of rows taken, read in pages.
-fn take_pages<F: CellFunction + Drop, V: CellJob + Drop, R: Source>(
+fn take_pages<F: CellOf + Drop, V: CellJob + Drop, R: Source>(
     function: F,
     job: V,
     options: &RowOptions,
@@ -252,7 +252,7 @@ fn take_pages<F: CellFunction + Drop, V: CellJob + Drop, R: Source>(
 /// # Errors
 ///
 /// As of `take_row_cells`; the error of a row that has an index is what the function says.
-pub fn take_row_cells_as<F: CellFunction + Drop, V: CellJob + Drop, R: Source>(
+pub fn take_row_cells_as<F: CellOf + Drop, V: CellJob + Drop, R: Source>(
     alloc: Global,
     function: F,
     job: V,

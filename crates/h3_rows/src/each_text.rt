@@ -8,11 +8,10 @@ ghost use Rattle.h3_rows.specs.RowsAnswer.{begun_answer, rows_answer};
 
 use crate::each::answer_input_by;
 use crate::function::{RowFunction, Workspace};
-use crate::put::hold_row;
 use crate::row::Row;
 use crate::write::put_row;
 use h3_index::H3Error;
-use h3_lines::{ANSWER, BLOCK, RunError, TextFunction};
+use h3_lines::{ANSWER, BLOCK, RunError, SHORT, TextFunction};
 use h3_requests::RowOptions;
 use h3_streams::{Sink, Source};
 use std::alloc::Global;
@@ -44,7 +43,8 @@ impl<'f, F: TextFunction> RowFunction for Texts<'f, F> {
     ) -> Result<Result<usize, H3Error>, RunError> {
         match self.function.text(Some(index), &mut work.place) {
             Ok(text) => {
-                let last = put_row(out, block, end, separator, row, text, after)?;
+                let own = text.own_bytes();
+                let last = put_row(out, block, end, separator, row, own, after)?;
                 Ok(Ok(last))
             }
             Err(error) => Ok(Err(error)),
@@ -62,7 +62,7 @@ impl<'f, F: TextFunction> RowFunction for Texts<'f, F> {
     ) -> Option<usize> {
         work.place = self.function.look_for(index, work.place);
         match self.function.text(Some(index), &mut work.place) {
-            Ok(text) if text.len() < ANSWER => Some(hold_row(block, at, text, b'\n')),
+            Ok(text) if text.count < ANSWER - SHORT => Some(text.put(block, at, b'\n')),
             _ => None,
         }
     }

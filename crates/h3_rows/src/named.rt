@@ -21,14 +21,14 @@ use crate::fields::{find_field, read_of, trimmed};
 use crate::header::{chosen_field, columns_in};
 use crate::line::row_of;
 use crate::numbers::{field_number, plain_number};
-use crate::plain::{find_plain_cell, find_whole_field};
+use crate::plain::{find_plain_cell, find_second_field};
 use crate::reading::{LONGEST, malformed};
 use crate::row::{EntryRow, Row};
 use crate::state::first_state;
 use crate::table::{FieldContent, TableColumns, TableForm, TableState};
 use h3_index::Cell;
 use h3_lines::{
-    AnswerError, CellFunction, ColumnError, Itself, Job, JobContract, MAX_READS, PAGE, RowError,
+    AnswerError, CellOf, ColumnError, Itself, Job, JobContract, MAX_READS, PAGE, RowError,
     RowFault, RunError, drive, row_page,
 };
 use h3_numbers::Number;
@@ -123,7 +123,7 @@ fn with_number(
 }
 
 /// What is read of a row: its cell and its second field, or `None` if the cell is missing.
-fn read_named<'r, F: CellFunction>(
+fn read_named<'r, F: CellOf>(
     function: &F,
     table: &TableForm<'_>,
     number: u64,
@@ -143,7 +143,7 @@ fn read_named<'r, F: CellFunction>(
 }
 
 /// What is read of a row, if anything, and the state after it; or the error that ends the table.
-fn find_named<'r, F: CellFunction>(
+fn find_named<'r, F: CellOf>(
     function: &F,
     table: &TableForm<'_>,
     state: TableState,
@@ -213,7 +213,7 @@ fn find_content(table: &TableForm<'_>, field: &[u8]) -> Option<Option<Number>>
 /// plain and not the first one, its cell a plain text and valid, and its second field whole, with what it should
 /// have. `None` may be answered to any other bytes, and if a stop is near to their end.
 #[inline(always)]
-fn find_plain_entry<'b, F: CellFunction>(
+fn find_plain_entry<'b, F: CellOf>(
     function: &F,
     table: &TableForm<'_>,
     number: u64,
@@ -229,15 +229,15 @@ fn find_plain_entry<'b, F: CellFunction>(
     };
     let separator = table.rows.separator;
     let quotes = table.rows.quotes;
-    let end = found.row.body.len();
-    let field = find_whole_field(separator, quotes, columns.name, end, bytes)?;
+    let size = found.row.body.len();
+    let field = find_second_field(separator, quotes, columns, found.end, size, bytes)?;
     let field = trimmed(field);
     let known = find_content(table, field)?;
     Some(EntryRow {
         cell: found.cell,
         field,
         number: known,
-        size: end + found.row.returns,
+        size: size + found.row.returns,
     })
 }
 
@@ -275,7 +275,7 @@ pub trait NamedJob {
 /// A job over rows that gives their cells and second fields to a job over these. It knows the state
 /// before the next row.
 #[derive(Drop)]
-struct NamedRows<'f, F: CellFunction, V: NamedJob> {
+struct NamedRows<'f, F: CellOf, V: NamedJob> {
     function: F,
     job: V,
     table: &'f TableForm<'f>,
@@ -283,7 +283,7 @@ struct NamedRows<'f, F: CellFunction, V: NamedJob> {
     ghost few: { V.count job ≤ state.number },
 }
 
-impl<'f, F: CellFunction, V: NamedJob> JobContract for NamedRows<'f, F, V> {
+impl<'f, F: CellOf, V: NamedJob> JobContract for NamedRows<'f, F, V> {
     ghost longest = { LONGEST };
 
     ghost count = { λ v. v.state.number };
@@ -326,7 +326,7 @@ impl<'f, F: CellFunction, V: NamedJob> JobContract for NamedRows<'f, F, V> {
         (table_in (F.says v.function) v.table.now, v.state) xs ys p.0 e p.1 q };
 }
 
-impl<'f, F: CellFunction, V: NamedJob> Job for NamedRows<'f, F, V> {
+impl<'f, F: CellOf, V: NamedJob> Job for NamedRows<'f, F, V> {
     fn take(&mut self, row: &[u8], inside: bool) -> Result<(), RunError> {
         let number = self.state.number;
         match find_named(&self.function, self.table, self.state, row_of(row), inside) {
@@ -395,7 +395,7 @@ fn end_table(table: &TableForm<'_>, state: TableState) -> Result<(), AnswerError
 }
 
 /// Has the cells and second fields of a table taken, read in pages.
-fn take_named_pages<F: CellFunction + Drop, V: NamedJob + Drop, R: Source>(
+fn take_named_pages<F: CellOf + Drop, V: NamedJob + Drop, R: Source>(
     function: F,
     job: V,
     table: &TableForm<'_>,
@@ -449,7 +449,7 @@ fn take_named_pages<F: CellFunction + Drop, V: NamedJob + Drop, R: Source>(
 /// # Errors
 ///
 /// As of `take_named_cells`; the error of a row that has an index is what the function says.
-pub fn take_named_cells_as<F: CellFunction + Drop, V: NamedJob + Drop, R: Source>(
+pub fn take_named_cells_as<F: CellOf + Drop, V: NamedJob + Drop, R: Source>(
     alloc: Global,
     function: F,
     job: V,

@@ -5,7 +5,7 @@ ghost use Rattle.std.specs.Prelude.{◌≡◌, ◌==◌, ◌+◌, ◌++◌, ◌�
 ghost use Rattle.std.specs.Char.{is_digit};
 ghost use Rattle.std.specs.List.{list_all};
 ghost use Rattle.h3_lines.specs.Pieces.{cut};
-ghost use Rattle.h3_rows.specs.Plain.{EndsPlain, IsPlainCell, IsPlainField, IsPlainRow, IsWhole, IsWholeRow, PassesFields, is_byte4, quote_or_feed};
+ghost use Rattle.h3_rows.specs.Plain.{EndsField, EndsPlain, IsPlainCell, IsPlainField, IsPlainRow, IsWhole, IsWholeRow, PassesFields, is_byte4, quote_or_feed};
 ghost use Rattle.h3_rows.specs.Row.{field_text, piece_at};
 ghost use Rattle.h3_rows.specs.RowForm.{form_as};
 
@@ -13,8 +13,9 @@ use crate::lanes::find_stop;
 use crate::reading::LONGEST_ROW;
 use crate::row::{CellRow, Row};
 use crate::state::Columns;
+use crate::table::TableColumns;
 use h3_index::read_plain;
-use h3_lines::CellFunction;
+use h3_lines::CellOf;
 use h3_requests::RowOptions;
 
 /// The quote if quotes count, and else a line feed: what a field without quotes does not have.
@@ -223,50 +224,54 @@ pub(crate) fn read_plain_field(quotes: bool, field: &[u8]) -> Option<u64>
     read_quoted_field(quotes, field)
 }
 
-/// The row that bytes begin with, and its cell's field, if the row ends in them with at most one
-/// carriage return, has as many fields as it should, and all of them whole. `None` may be answered to
-/// any other bytes, and if a stop is near to their end.
+/// The row that bytes begin with, its cell's field, and where that ends, if the row ends in them with at
+/// most one carriage return, has as many fields as it should, and all of them whole. `None` may be
+/// answered to any other bytes, and if a stop is near to their end.
 #[inline(always)]
 pub(crate) fn find_plain(
     separator: u8,
     quotes: bool,
     columns: Columns,
     bytes: &[u8],
-) -> Option<(Row<'_>, &[u8])>
+) -> Option<(Row<'_>, &[u8], usize)>
     requires quote { (34 == separator) ≡ false }
     requires feed { (10 == separator) ≡ false }
     requires carriage { (13 == separator) ≡ false }
-    ensures { IfSome result (λ p. IsPlainRow separator quotes columns bytes.now p.0.body.now
+    ensures is { IfSome result (λ p. IsPlainRow separator quotes columns bytes.now p.0.body.now
         p.0.returns p.1.now) }
+    ensures field { IfSome result (λ p. EndsField separator quotes columns.before bytes.now p.2) }
 {
     let (rest, end) = pass_fields(separator, quotes, columns.before, bytes)?;
     let last = find_last(separator, quotes, columns, rest, end)?;
     let returns = count_returns(rest, last)?;
-    let body = &bytes[..bytes.len() - rest.len() + last];
-    Some((Row { body, returns }, &rest[..end]))
+    let start = bytes.len() - rest.len();
+    let body = &bytes[..start + last];
+    Some((Row { body, returns }, &rest[..end], start + end))
 }
 
 /// What is taken for the cell of the row that bytes begin with, and that row, if it is plain and not the first one,
 /// and its cell a plain text for which a cell is taken. `None` may be answered to any other bytes, and if a stop is near to their end.
 #[inline(always)]
-pub(crate) fn find_plain_cell<'b, F: CellFunction>(
+pub(crate) fn find_plain_cell<'b, F: CellOf>(
     function: &F,
     options: &RowOptions,
     number: u64,
     columns: Columns,
     bytes: &'b [u8],
 ) -> Option<CellRow<'b>>
-    ensures { IfSome result (λ r. IsPlainCell (form_as (F.says function.now) options.now) number columns bytes.now
+    ensures is { IfSome result (λ r. IsPlainCell (form_as (F.says function.now) options.now) number columns bytes.now
         r.row.body.now r.row.returns r.cell) }
+    ensures field { IfSome result (λ r.
+        EndsField options.now.separator options.now.quotes columns.before bytes.now r.end) }
 {
-    let (row, field) = find_plain(options.separator, options.quotes, columns, bytes)?;
+    let (row, field, end) = find_plain(options.separator, options.quotes, columns, bytes)?;
     let index = read_plain_field(options.quotes, field)?;
     // A byte order mark is before the first row alone.
     if number == 1 || row.body.is_empty() || row.body.len() > LONGEST_ROW {
         return None;
     }
     match function.cell_of(index) {
-        Ok(Some(cell)) => Some(CellRow { row, cell }),
+        Ok(Some(cell)) => Some(CellRow { row, cell, end }),
         _ => None,
     }
 }
@@ -297,4 +302,34 @@ pub(crate) fn find_whole_field(
         return Some(&rest[..end]);
     }
     None
+}
+
+/// The second field of the row that is the first `size` of these bytes, if all fields up to it are whole. Its
+/// cell's field ends at the place `end`, so a field after it is looked for from there on. `None` may be answered
+/// to any other bytes, and if a stop is near to their end.
+#[inline(always)]
+pub(crate) fn find_second_field(
+    separator: u8,
+    quotes: bool,
+    columns: TableColumns,
+    end: usize,
+    size: usize,
+    bytes: &[u8],
+) -> Option<&[u8]>
+    requires quote { (34 == separator) ≡ false }
+    requires feed { (10 == separator) ≡ false }
+    requires carriage { (13 == separator) ≡ false }
+    requires within { size ≤ length bytes.now }
+    requires field { EndsField separator quotes columns.cell.before bytes.now end }
+    ensures { IfSome result (λ field.
+        piece_at columns.name (cut separator quotes false (take size bytes.now)) ≡ Some field.now) }
+{
+    let passed = columns.cell.before;
+    if columns.name > passed && end < size && bytes[end] == separator {
+        let after = end + 1;
+        let before = columns.name - passed - 1;
+        let field = find_whole_field(separator, quotes, before, size - after, &bytes[after..])?;
+        return Some(field);
+    }
+    find_whole_field(separator, quotes, columns.name, size, bytes)
 }

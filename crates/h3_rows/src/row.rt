@@ -27,6 +27,9 @@ pub struct CellRow<'r> {
 
     /// Its cell.
     pub cell: Cell,
+
+    /// Where its cell's field ends.
+    pub end: usize,
 }
 
 /// A row's cell, its second field, and its size.

@@ -22,7 +22,7 @@ returns-then-row-eq0-clause-some g c =
     = ap (λ n. line.line ++ (replicate n 13 ++ 10 ∷ [])) c.if-row-eq0.true in
     let front : List ℕ = held ++ (row ++ form.separator ∷ []) in
     puts_plain form answer a.state a.columns c.requires.known c.if-state-eq1.false silent a.bytes.now row
-    c.in_ok-row.field.now held _ done.puts.text returns c.in_ok-index.index c.in_ok-row.ensures c.in_ok-index.ensures
+    c.in_ok-row.field.now held _ done.puts.text returns c.in_ok-index.index c.in_ok-row.ensures.is c.in_ok-index.ensures
     (omega (arith, c.if-end-size-ge-BLOCK.false)) some done.puts.is line done.closed
     (done.puts.put ∙ ap (λ l. l ++ done.puts.text) c.hold_row-at.ensures.held
     ∙ ap (λ l. front ++ l) (line.split ∙ sym ending))
@@ -49,7 +49,7 @@ returns-else-row-eq0-clause-some g c =
     (omega (arith, c.in-Some.ensures.end, c.if-end-size-ge-BLOCK.false, c.hold_row-at.ensures.end))
     (done.puts.put ∙ ap (λ l. at ++ l) line.split ∙ sym (append_assoc at line.line (10 ∷ []))) in
     puts_plain form answer a.state a.columns c.requires.known c.if-state-eq1.false silent a.bytes.now row
-    c.in_ok-row.field.now held _ done.puts.text returns c.in_ok-index.index c.in_ok-row.ensures c.in_ok-index.ensures
+    c.in_ok-row.field.now held _ done.puts.text returns c.in_ok-index.index c.in_ok-row.ensures.is c.in_ok-index.ensures
     (omega (arith, c.if-end-size-ge-BLOCK.false)) some done.puts.is line done.closed
     (c.hold_ending-last.ensures.held ∙ ap (λ l. l ++ ending) (before ∙ ap (λ l. l ++ line.line) c.hold_row-at.ensures.held)
     ∙ append_assoc front line.line ending)

@@ -10,7 +10,7 @@ use Rattle.h3_rows.proofs.cells.find_cell.Goals as goal
 pub returns-then-is_empty-clause-ok : goal.returns-then-is_empty-clause-ok
 returns-then-is_empty-clause-ok g c =
     let r = c.args.row in
-    let form = form_as (g.F.CellFunction.says c.args.function.now) c.args.options.now in
+    let form = form_as (g.F.CellOf.says c.args.function.now) c.args.options.now in
     let body = body_of_row r.body.now r.returns r.bare in
     let sound : malformed form c.args.state.number (line_of r, c.args.inside) ≡ None =
     sym c.malformed.ensures ∙ c.in_default.is in
@@ -23,7 +23,7 @@ returns-then-is_empty-clause-ok g c =
 pub returns-in-Ok-clause-ok : goal.returns-in-Ok-clause-ok
 returns-in-Ok-clause-ok g c =
     let r = c.args.row in
-    let form = form_as (g.F.CellFunction.says c.args.function.now) c.args.options.now in
+    let form = form_as (g.F.CellOf.says c.args.function.now) c.args.options.now in
     let body = body_of_row r.body.now r.returns r.bare in
     let sound : malformed form c.args.state.number (line_of r, c.args.inside) ≡ None =
     sym c.malformed.ensures ∙ c.in_default.is in
@@ -38,7 +38,7 @@ returns-in-Ok-clause-ok g c =
 pub returns-in-Err-clause-err : goal.returns-in-Err-clause-err
 returns-in-Err-clause-err g c =
     let r = c.args.row in
-    let form = form_as (g.F.CellFunction.says c.args.function.now) c.args.options.now in
+    let form = form_as (g.F.CellOf.says c.args.function.now) c.args.options.now in
     let body = body_of_row r.body.now r.returns r.bare in
     let sound : malformed form c.args.state.number (line_of r, c.args.inside) ≡ None =
     sym c.malformed.ensures ∙ c.in_default.is in
@@ -53,7 +53,7 @@ returns-in-Err-clause-err g c =
 pub returns-in-Ok-read_cell-clause-ok : goal.returns-in-Ok-read_cell-clause-ok
 returns-in-Ok-read_cell-clause-ok g c =
     let r = c.args.row in
-    let form = form_as (g.F.CellFunction.says c.args.function.now) c.args.options.now in
+    let form = form_as (g.F.CellOf.says c.args.function.now) c.args.options.now in
     let body = body_of_row r.body.now r.returns r.bare in
     let sound : malformed form c.args.state.number (line_of r, c.args.inside) ≡ None =
     sym c.malformed.ensures ∙ c.in_default.is in
@@ -70,7 +70,7 @@ returns-in-Ok-read_cell-clause-ok g c =
 pub returns-in-Err-read_cell-clause-err : goal.returns-in-Err-read_cell-clause-err
 returns-in-Err-read_cell-clause-err g c =
     let r = c.args.row in
-    let form = form_as (g.F.CellFunction.says c.args.function.now) c.args.options.now in
+    let form = form_as (g.F.CellOf.says c.args.function.now) c.args.options.now in
     let body = body_of_row r.body.now r.returns r.bare in
     let sound : malformed form c.args.state.number (line_of r, c.args.inside) ≡ None =
     sym c.malformed.ensures ∙ c.in_default.is in

@@ -6,5 +6,5 @@ use Rattle.h3_rows.proofs.cells.take_row_cells_as.Goals as goal
 pub returns-in_err-page-clause-refused : goal.returns-in_err-page-clause-refused
 returns-in_err-page-clause-refused g c =
     let p = err_from_is_err_and c.from_residual.result c.from_residual.ensures.1 in
-    rw (p.1, p.2, c.in_err-page.ensures.err) (no_memory (form_as (g.F.CellFunction.says c.args.function) c.args.options.now)
+    rw (p.1, p.2, c.in_err-page.ensures.err) (no_memory (form_as (g.F.CellOf.says c.args.function) c.args.options.now)
     (g.R.Source.left c.args.input.now) (g.R.Source.has_failed c.args.input.now))

@@ -11,7 +11,7 @@ use Rattle.h3_rows.proofs.named.find_named.Goals as goal
 pub returns-then-is_empty-clause-ok : goal.returns-then-is_empty-clause-ok
 returns-then-is_empty-clause-ok g c =
     let r = c.args.row in
-    let form = form_as (g.F.CellFunction.says c.args.function.now) c.args.table.now.rows.now in
+    let form = form_as (g.F.CellOf.says c.args.function.now) c.args.table.now.rows.now in
     let body = body_of_row r.body.now r.returns r.bare in
     let sound : malformed form c.args.state.number (line_of r, c.args.inside) ≡ None =
     sym c.malformed.ensures ∙ c.in_default.is in
@@ -24,8 +24,8 @@ returns-then-is_empty-clause-ok g c =
 pub returns-in-Ok-clause-ok : goal.returns-in-Ok-clause-ok
 returns-in-Ok-clause-ok g c =
     let r = c.args.row in
-    let table = table_in (g.F.CellFunction.says c.args.function.now) c.args.table.now in
-    let form = form_as (g.F.CellFunction.says c.args.function.now) c.args.table.now.rows.now in
+    let table = table_in (g.F.CellOf.says c.args.function.now) c.args.table.now in
+    let form = form_as (g.F.CellOf.says c.args.function.now) c.args.table.now.rows.now in
     let body = body_of_row r.body.now r.returns r.bare in
     let sound : malformed form c.args.state.number (line_of r, c.args.inside) ≡ None =
     sym c.malformed.ensures ∙ c.in_default.is in
@@ -42,8 +42,8 @@ returns-in-Ok-clause-ok g c =
 pub returns-in-Err-clause-err : goal.returns-in-Err-clause-err
 returns-in-Err-clause-err g c =
     let r = c.args.row in
-    let table = table_in (g.F.CellFunction.says c.args.function.now) c.args.table.now in
-    let form = form_as (g.F.CellFunction.says c.args.function.now) c.args.table.now.rows.now in
+    let table = table_in (g.F.CellOf.says c.args.function.now) c.args.table.now in
+    let form = form_as (g.F.CellOf.says c.args.function.now) c.args.table.now.rows.now in
     let body = body_of_row r.body.now r.returns r.bare in
     let sound : malformed form c.args.state.number (line_of r, c.args.inside) ≡ None =
     sym c.malformed.ensures ∙ c.in_default.is in
@@ -58,8 +58,8 @@ returns-in-Err-clause-err g c =
 pub returns-in-Ok-read_named-clause-ok : goal.returns-in-Ok-read_named-clause-ok
 returns-in-Ok-read_named-clause-ok g c =
     let r = c.args.row in
-    let table = table_in (g.F.CellFunction.says c.args.function.now) c.args.table.now in
-    let form = form_as (g.F.CellFunction.says c.args.function.now) c.args.table.now.rows.now in
+    let table = table_in (g.F.CellOf.says c.args.function.now) c.args.table.now in
+    let form = form_as (g.F.CellOf.says c.args.function.now) c.args.table.now.rows.now in
     let body = body_of_row r.body.now r.returns r.bare in
     let sound : malformed form c.args.state.number (line_of r, c.args.inside) ≡ None =
     sym c.malformed.ensures ∙ c.in_default.is in
@@ -75,8 +75,8 @@ returns-in-Ok-read_named-clause-ok g c =
 pub returns-in-Err-read_named-clause-err : goal.returns-in-Err-read_named-clause-err
 returns-in-Err-read_named-clause-err g c =
     let r = c.args.row in
-    let table = table_in (g.F.CellFunction.says c.args.function.now) c.args.table.now in
-    let form = form_as (g.F.CellFunction.says c.args.function.now) c.args.table.now.rows.now in
+    let table = table_in (g.F.CellOf.says c.args.function.now) c.args.table.now in
+    let form = form_as (g.F.CellOf.says c.args.function.now) c.args.table.now.rows.now in
     let body = body_of_row r.body.now r.returns r.bare in
     let sound : malformed form c.args.state.number (line_of r, c.args.inside) ≡ None =
     sym c.malformed.ensures ∙ c.in_default.is in

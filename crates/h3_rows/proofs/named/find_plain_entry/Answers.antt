@@ -12,8 +12,8 @@ find_content-requires g c = rw c.trimmed-field.ensures (trim_again c.in_ok-field
 
 pub returns-clause-is : goal.returns-clause-is
 returns-clause-is g c =
-    let table = table_in (g.F.CellFunction.says c.args.function.now) c.args.table.now in
-    let p = c.in-Some.ensures in
+    let table = table_in (g.F.CellOf.says c.args.function.now) c.args.table.now in
+    let p = c.in-Some.ensures.is in
     let bytes : List ℕ = c.args.bytes.now in
     let row : List ℕ = c.in-Some.found.row.body.now in
     let ending = replicate c.in-Some.found.row.returns 13 in

@@ -11,11 +11,11 @@ pub returns-in_ok-take-in-Some-find_plain_cell-clause-some :
     goal.returns-in_ok-take-in-Some-find_plain_cell-clause-some
 returns-in_ok-take-in-Some-find_plain_cell-clause-some g c =
     let v = c.args.self.now in
-    let form = form_as (g.F.CellFunction.says v.function) v.options.now in
+    let form = form_as (g.F.CellOf.says v.function) v.options.now in
     let found = c.in-Some-find_plain_cell.found in
     let row : List ℕ = found.row.body.now in
     let n = found.row.returns in
-    let p = c.in-Some-find_plain_cell.ensures in
+    let p = c.in-Some-find_plain_cell.ensures.is in
     let k = c.in-Some.columns in
     let line = row ++ replicate n 13 in
     let cuts : CutsAt 10 c.args.quotes false c.args.bytes.now line p.after =

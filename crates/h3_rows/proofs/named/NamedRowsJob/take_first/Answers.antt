@@ -11,7 +11,7 @@ pub returns-in_ok-take-in-Some-find_plain_entry-clause-some :
     goal.returns-in_ok-take-in-Some-find_plain_entry-clause-some
 returns-in_ok-take-in-Some-find_plain_entry-clause-some g c =
     let v = c.args.self.now in
-    let table = table_in (g.F.CellFunction.says v.function) v.table.now in
+    let table = table_in (g.F.CellOf.says v.function) v.table.now in
     let found = c.in-Some-find_plain_entry.found in
     let p = c.in-Some-find_plain_entry.ensures.is in
     let row : List ℕ = p.row in
