@@ -24,10 +24,10 @@ use Rattle.h3_rows.specs.Areas.{NamesAreFields, area_cells, area_names, names_in
 use Rattle.h3_rows.specs.Named.{Entry, names_table}
 use Rattle.h3_rows.specs.declared.areas.AreaTable.{AreaTable}
 use Rattle.h3_command.specs.AreaTable.{EndsWithAreas, HoldsAreas, ReadsAreas}
-use Rattle.h3_command.specs.Areas.{area_answer, name_answer, name_lines, names_or}
+use Rattle.h3_command.specs.Areas.{area_answer, name_answer, name_lines, names_or, overlap_error}
 use Rattle.h3_command.specs.Rows.{area_form, text_form, title_or_zone}
 use Rattle.h3_command.specs.Run.{EndsLines}
-use Rattle.h3_command.proofs.Joining.{not_refused}
+use Rattle.h3_command.proofs.Joining.{apart_judged, not_refused}
 use Rattle.h3_command.proofs.NewColumns.{no_quote_separates, plain_lines}
 
 -- ---- areas that are alike
@@ -113,7 +113,7 @@ ends_named options rows entries table areas column input ending out holds alike 
     (area_answer quotes none entries) input ending out) holds.counts named
 
 pub ends_apart : AlikeAreas → ClashesAreFound
-    → (options : AreaOptions) (rows : Option RowOptions) (entries : List Entry) (table : AreaTable)
+    → (overlapping : Bool) (options : AreaOptions) (rows : Option RowOptions) (entries : List Entry) (table : AreaTable)
     (areas : List (Address × ℕ)) (column : List ℕ)
     (input : SourceUse) (ending : Result (Unit {0}) RunError) (out : SinkUse)
     → HoldsAreas options.table.rows.quotes entries table → areas_refusal table.cells.items ≡ None
@@ -121,12 +121,12 @@ pub ends_apart : AlikeAreas → ClashesAreFound
     → column ≡ unwrap_or (option_map (λ t. t.items) table.title) (codes "zone")
     → EndsLines (text_form rows table.names.quotes column) (name_answer (string_bytes options.none)
     (names_in table.names.bytes.items table.names.spans.items) areas) input ending out
-    → EndsWithAreas false options rows entries input ending out
-ends_apart law clashes options rows entries table areas column input ending out holds free alike apart titled ends =
+    → EndsWithAreas overlapping options rows entries input ending out
+ends_apart law clashes overlapping options rows entries table areas column input ending out holds free alike apart titled ends =
     let listed : AreListedAlike areas table.cells.items =
     law.listed areas table.cells.items alike apart (not_refused clashes table.cells.items free) in
     inl (
-      ap areas_refusal (sym holds.cells) ∙ free,
+      ap (overlap_error overlapping) (sym holds.cells) ∙ apart_judged overlapping table.cells.items free,
       ends_named options rows entries table areas column input ending out holds listed titled ends,
     )
 

@@ -13,7 +13,7 @@ use Rattle.h3_regions.specs.Areas.{AreApart, IsBefore, LiesIn, areas_of, coarses
 use Rattle.h3_regions.specs.Refusals.{areas_refusal, has_clash}
 use Rattle.h3_rows.specs.Areas.{CellsHaveAreas, HasArea, NamedCell, NamesStandOnce, NumbersAreOfNames, area_cells, area_names, cells_among, in_area, name_text, place_of}
 use Rattle.h3_rows.specs.Named.{Entry}
-use Rattle.h3_command.specs.Areas.{names_or}
+use Rattle.h3_command.specs.Areas.{names_or, overlap_error}
 use Rattle.h3_command.specs.Join.{CellsGetTheirNames, Covers, IsNameOf, NamesAreOfRows, NamesDiffer, OneNameEach, OthersGetNone}
 
 -- ---- elements of a list that is mapped
@@ -100,6 +100,12 @@ not_refused clashes areas none =
     λ t. elim t as (λ t. has_clash areas ≡ t → (if t then Some DuplicateInput else None) ≡ None → has_clash areas
     ≡ false) [ true ↦ λ is never. absurd (cc) | false ↦ λ is free. is ] in
     (clashes areas).0 (either (has_clash areas) refl none)
+
+-- whether they may overlap or not, areas of which no two do are not refused
+pub apart_judged : (overlapping : Bool) (areas : List (Address × ℕ)) → areas_refusal areas ≡ None
+    → overlap_error overlapping areas ≡ None
+apart_judged true areas none = refl
+apart_judged false areas none = none
 
 -- ---- the names of its areas
 

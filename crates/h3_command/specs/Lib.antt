@@ -33,6 +33,7 @@ pub mod Plan
 pub mod Required
 pub mod Rows
 pub mod Run
+pub mod ShortNames
 pub mod Sizes
 pub mod SumAnswers
 pub mod SumEntries

@@ -1,7 +1,7 @@
 //! How many cells of a list lie in each of the areas of a table of zones with names.
 
 ghost use Rattle.std.proofs.Common.{◌∙◌, refl};
-ghost use Rattle.std.specs.Prelude.{◌≡◌, ◌+◌, ◌<◌, ◌≤◌, ◌++◌, ◌∷◌, [], ℕ, true, false, All, Bool, List, IfOk, OnErr, length, map, sum, take, None, Some, option_map, string_bytes, if◌then◌else◌};
+ghost use Rattle.std.specs.Prelude.{◌≡◌, ◌+◌, ◌<◌, ◌≤◌, ◌++◌, ◌∷◌, [], ℕ, All, Bool, List, IfOk, OnErr, length, map, sum, take, None, Some, option_map, string_bytes, if◌then◌else◌};
 ghost use Rattle.std.specs.List.{flat_map};
 ghost use Rattle.h3_index.specs.Cell.{Address};
 ghost use Rattle.h3_lines.specs.Answer.{written};
@@ -345,74 +345,8 @@ fn count_in_each<R: Source, W: Sink>(
     )
 }
 
-/// As `count_areas`, of areas that may overlap.
-fn count_overlapping<R: Source, W: Sink>(
-    alloc: Global,
-    options: &AreaOptions,
-    list: &Option<RowOptions>,
-    table: &mut AreaTable,
-    input: &mut R,
-    out: &mut W,
-) -> Result<(), RunError>
-    requires may { options.now.overlapping ≡ true }
-    requires small { All (λ p. p.1 < length table.old.names.spans.items) table.old.cells.items }
-    ensures { (entries : List Entry) → HoldsAreas options.now.table.rows.quotes entries table.old
-        → EndsJudged (overlap_error options.now.overlapping
-        (area_cells options.now.table.rows.quotes entries))
-        (EndsNumberedList itself (list_form list.now) (area_counts_answer options.now list.now entries)
-        (source_use R.left R.has_failed input.old input.new) result
-        (sink_use W.taken W.has_failed out.old out.new))
-        (source_use R.left R.has_failed input.old input.new) result
-        (sink_use W.taken W.has_failed out.old out.new) }
-{
-    areas_are_lawful();
-    let room = table.cells.len();
-    let column = name_of_column(&table.title);
-    let areas = Areas::of(&mut table.cells);
-    count_in_each(
-        alloc,
-        options,
-        list,
-        column,
-        &table.names,
-        areas,
-        room,
-        input,
-        out,
-    )
-}
-
-/// As `count_areas`, of areas that may not overlap.
-fn count_unless_overlapping<R: Source, W: Sink>(
-    alloc: Global,
-    options: &AreaOptions,
-    list: &Option<RowOptions>,
-    table: &mut AreaTable,
-    input: &mut R,
-    out: &mut W,
-) -> Result<(), RunError>
-    requires may_not { options.now.overlapping ≡ false }
-    requires small { All (λ p. p.1 < length table.old.names.spans.items) table.old.cells.items }
-    ensures { (entries : List Entry) → HoldsAreas options.now.table.rows.quotes entries table.old
-        → EndsJudged (overlap_error options.now.overlapping
-        (area_cells options.now.table.rows.quotes entries))
-        (EndsNumberedList itself (list_form list.now) (area_counts_answer options.now list.now entries)
-        (source_use R.left R.has_failed input.old input.new) result
-        (sink_use W.taken W.has_failed out.old out.new))
-        (source_use R.left R.has_failed input.old input.new) result
-        (sink_use W.taken W.has_failed out.old out.new) }
-{
-    areas_are_lawful();
-    let mut slots = slots_for(alloc, table.cells.len())?;
-    let title = name_of_column(&table.title);
-    match ApartAreas::of(&mut table.cells, &mut slots) {
-        Ok(areas) => count_apart(alloc, options, list, title, &table.names, areas, input, out),
-        Err(refused) => Err(RunError::Error(AnswerError::File(CellFile::Zones, refused.error))),
-    }
-}
-
 /// Writes how many of the listed cells, or of those of the rows, lie in each area, and how many in none,
-/// unless two areas overlap and may not.
+/// unless two areas overlap and may not. If no two overlap, a cell's area is looked up by a table.
 fn count_areas<R: Source, W: Sink>(
     alloc: Global,
     options: &AreaOptions,
@@ -431,10 +365,30 @@ fn count_areas<R: Source, W: Sink>(
         (source_use R.left R.has_failed input.old input.new) result
         (sink_use W.taken W.has_failed out.old out.new) }
 {
-    if options.overlapping {
-        count_overlapping(alloc, options, list, table, input, out)
-    } else {
-        count_unless_overlapping(alloc, options, list, table, input, out)
+    areas_are_lawful();
+    let mut slots = slots_for(alloc, table.cells.len())?;
+    let title = name_of_column(&table.title);
+    match ApartAreas::of(&mut table.cells, &mut slots) {
+        Ok(areas) => count_apart(alloc, options, list, title, &table.names, areas, input, out),
+        Err(refused) => {
+            if !options.overlapping {
+                return Err(RunError::Error(AnswerError::File(CellFile::Zones, refused.error)));
+            }
+            let pairs = refused.pairs;
+            let room = pairs.len();
+            let areas = Areas::of(pairs);
+            count_in_each(
+                alloc,
+                options,
+                list,
+                title,
+                &table.names,
+                areas,
+                room,
+                input,
+                out,
+            )
+        }
     }
 }
 

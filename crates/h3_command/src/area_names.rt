@@ -1,13 +1,16 @@
 //! The name of a cell's area, if no two areas overlap, or the names of its areas.
 
-ghost use Rattle.std.specs.Prelude.{false, All};
+ghost use Rattle.std.specs.Prelude.{◌≡◌, [], false, All, get_or};
 ghost use Rattle.h3_lines.specs.Pieces.{Uncut};
+ghost use Rattle.h3_lines.specs.Text.{text_in};
 ghost use Rattle.h3_rows.specs.Areas.{names_in};
+ghost use Rattle.h3_command.specs.ShortNames.{AreShort};
 
 use crate::files::look_ahead;
 use crate::required::cell_given;
+use crate::short_names::ShortName;
 use h3_index::H3Error;
-use h3_lines::{LINES, TextFunction, TextsFunction};
+use h3_lines::{LINES, SHORT, Text, TextFunction, TextsFunction};
 use h3_regions::{ApartAreas, Areas, TabledZones};
 use h3_rows::Names;
 
@@ -17,10 +20,36 @@ pub(crate) struct AreaOf<'a> {
     pub(crate) areas: ApartAreas<'a>,
     pub(crate) tabled: TabledZones<'a>,
     pub(crate) names: &'a Names,
+    pub(crate) short: &'a [ShortName],
     pub(crate) none: &'a [u8],
     ghost lines: { All (λ name. Uncut 10 names.now.quotes false name false)
         (names_in names.now.bytes.items names.now.spans.items) },
     ghost line: { Uncut 10 names.now.quotes false none.now false },
+    ghost copies: { AreShort (names_in names.now.bytes.items names.now.spans.items) short.now },
+}
+
+impl<'a> AreaOf<'a> {
+    /// The name with a number.
+    #[inline(always)]
+    fn name(&self, number: usize) -> Text<'_>
+        ensures { text_in result
+            ≡ get_or (names_in self.now.names.now.bytes.items self.now.names.now.spans.items) number [] }
+    {
+        if number < self.short.len() {
+            let short = &self.short[number];
+            let count = short.count as usize;
+            if count <= SHORT {
+                return Text {
+                    bytes: &short.bytes,
+                    count,
+                };
+            }
+        }
+        match self.names.get(number) {
+            Some(name) => Text::of(name),
+            None => Text::of(b""),
+        }
+    }
 }
 
 impl<'a> TextFunction for AreaOf<'a> {
@@ -32,11 +61,11 @@ impl<'a> TextFunction for AreaOf<'a> {
     ghost counts_quotes = { λ f. f.names.now.quotes };
 
     #[inline(always)]
-    fn text(&self, index: Option<u64>, place: &mut usize) -> Result<&[u8], H3Error> {
+    fn text(&self, index: Option<u64>, place: &mut usize) -> Result<Text<'_>, H3Error> {
         let cell = cell_given(index)?;
         match self.areas.area_near(cell, place) {
-            Some(number) => Ok(self.names.get(number as usize).unwrap_or(b"")),
-            None => Ok(self.none),
+            Some(number) => Ok(self.name(number as usize)),
+            None => Ok(Text::of(self.none)),
         }
     }
 

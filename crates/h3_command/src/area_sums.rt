@@ -1,7 +1,7 @@
 //! How many rows of a list have their cells in each of the areas of a table of zones with names, and what
 //! the numbers in these rows add up to.
 
-ghost use Rattle.std.specs.Prelude.{◌≡◌, ◌+◌, ◌<◌, ◌≤◌, ℕ, true, All, List, IfErr, IfOk, IfSome, None, Some, false, length, option_map, pos, string_bytes, unwrap_or, codes};
+ghost use Rattle.std.specs.Prelude.{◌≡◌, ◌+◌, ◌<◌, ◌≤◌, ℕ, true, All, List, IfErr, IfOk, IfSome, None, Some, length, option_map, pos, string_bytes, unwrap_or, codes};
 ghost use Rattle.h3_index.specs.Cell.{Address};
 ghost use Rattle.h3_requests.specs.Rows.{is_counted};
 ghost use Rattle.h3_lines.specs.Answer.{written};
@@ -80,6 +80,7 @@ impl<F: FindAreas> NamedJob for SumTally<F> {
         t.sums.items t.none u.sums.items u.none
         (option_map (λ b. b.items) t.title) (option_map (λ b. b.items) u.title) entries };
 
+    #[inline(always)]
     fn take(
         &mut self,
         cell: Option<Cell>,
@@ -97,13 +98,13 @@ impl<F: FindAreas> NamedJob for SumTally<F> {
             };
         };
         let number = amount_in(known, self.quotes, field);
-        self.none = add_amount(
+        add_amount(
             &mut self.finder,
             cell,
             number,
             &mut self.numbers,
             &mut self.sums,
-            self.none,
+            &mut self.none,
             self.taken,
         );
         self.taken += 1;
@@ -233,102 +234,8 @@ pub(crate) fn sum_found<R: Source, W: Sink, F: FindAreas + Drop, N: RowNames>(
     write_sums(form.separator, titles, names, &tally.sums, none, out)
 }
 
-/// As `sum_areas`, of areas that may overlap.
-fn sum_overlapping<R: Source, W: Sink>(
-    alloc: Global,
-    options: &AreaOptions,
-    list: &RowOptions,
-    field: &CellField,
-    table: &mut AreaTable,
-    input: &mut R,
-    out: &mut W,
-) -> Result<(), RunError>
-    requires counted { is_counted field.now ≡ true }
-    requires may { options.now.overlapping ≡ true }
-    requires small { All (λ p. p.1 < length table.old.names.spans.items) table.old.cells.items }
-    ensures { (zones : List Entry) → HoldsAreas options.now.table.rows.quotes zones table.old
-        → EndsJudged (overlap_error options.now.overlapping
-        (area_cells options.now.table.rows.quotes zones))
-        (EndsEntries (table_of list.now field.now content.Number)
-        (area_sums_answer options.now list.now zones)
-        (source_use R.left R.has_failed input.old input.new) result
-        (sink_use W.taken W.has_failed out.old out.new))
-        (source_use R.left R.has_failed input.old input.new) result
-        (sink_use W.taken W.has_failed out.old out.new) }
-{
-    areas_are_lawful();
-    let title = name_of_column(&table.title);
-    let room = table.cells.len();
-    let areas = Areas::of(&mut table.cells);
-    let finder = Overlapping { areas };
-    let form = area_form(options, list, title);
-    sum_found(
-        alloc,
-        &form,
-        list,
-        field,
-        &table.names,
-        finder,
-        room,
-        input,
-        out,
-    )
-}
-
-/// As `sum_areas`, of areas that may not overlap.
-fn sum_apart<R: Source, W: Sink>(
-    alloc: Global,
-    options: &AreaOptions,
-    list: &RowOptions,
-    field: &CellField,
-    table: &mut AreaTable,
-    input: &mut R,
-    out: &mut W,
-) -> Result<(), RunError>
-    requires counted { is_counted field.now ≡ true }
-    requires may_not { options.now.overlapping ≡ false }
-    requires small { All (λ p. p.1 < length table.old.names.spans.items) table.old.cells.items }
-    ensures { (zones : List Entry) → HoldsAreas options.now.table.rows.quotes zones table.old
-        → EndsJudged (overlap_error options.now.overlapping
-        (area_cells options.now.table.rows.quotes zones))
-        (EndsEntries (table_of list.now field.now content.Number)
-        (area_sums_answer options.now list.now zones)
-        (source_use R.left R.has_failed input.old input.new) result
-        (sink_use W.taken W.has_failed out.old out.new))
-        (source_use R.left R.has_failed input.old input.new) result
-        (sink_use W.taken W.has_failed out.old out.new) }
-{
-    areas_are_lawful();
-    let mut slots = slots_for(alloc, table.cells.len())?;
-    let title = name_of_column(&table.title);
-    match ApartAreas::of(&mut table.cells, &mut slots) {
-        Ok(areas) => {
-            let zones = Zones::over(areas.cells());
-            let places = table_of(alloc, &zones)?;
-            let finder = Apart {
-                areas,
-                tabled: TabledZones::over(&zones, &places),
-                place: 0,
-            };
-            let form = area_form(options, list, title);
-            sum_found(
-                alloc,
-                &form,
-                list,
-                field,
-                &table.names,
-                finder,
-                1,
-                input,
-                out,
-            )
-        }
-        Err(refused) => Err(RunError::Error(AnswerError::File(CellFile::Zones, refused.error))),
-    }
-}
-
 /// Writes how many of the rows of a list have their cells in each area and in none, and what their numbers
-/// add up to, unless two areas overlap and may not.
+/// add up to, unless two areas overlap and may not. If no two overlap, a cell's area is looked up by a table.
 fn sum_areas<R: Source, W: Sink>(
     alloc: Global,
     options: &AreaOptions,
@@ -350,10 +257,32 @@ fn sum_areas<R: Source, W: Sink>(
         (source_use R.left R.has_failed input.old input.new) result
         (sink_use W.taken W.has_failed out.old out.new) }
 {
-    if options.overlapping {
-        sum_overlapping(alloc, options, list, field, table, input, out)
-    } else {
-        sum_apart(alloc, options, list, field, table, input, out)
+    areas_are_lawful();
+    let mut slots = slots_for(alloc, table.cells.len())?;
+    let title = name_of_column(&table.title);
+    let form = area_form(options, list, title);
+    let names = &table.names;
+    match ApartAreas::of(&mut table.cells, &mut slots) {
+        Ok(areas) => {
+            let zones = Zones::over(areas.cells());
+            let places = table_of(alloc, &zones)?;
+            let finder = Apart {
+                areas,
+                tabled: TabledZones::over(&zones, &places),
+                place: 0,
+            };
+            sum_found(alloc, &form, list, field, names, finder, 1, input, out)
+        }
+        Err(refused) => {
+            if !options.overlapping {
+                return Err(RunError::Error(AnswerError::File(CellFile::Zones, refused.error)));
+            }
+            let pairs = refused.pairs;
+            let room = pairs.len();
+            let areas = Areas::of(pairs);
+            let finder = Overlapping { areas };
+            sum_found(alloc, &form, list, field, names, finder, room, input, out)
+        }
     }
 }
 

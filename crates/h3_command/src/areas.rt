@@ -5,7 +5,7 @@
 //! twice, is `AnswerError::FileColumn`; areas of which two overlap, if they may not, are
 //! `AnswerError::File` with `DuplicateInput`; and `Fault::Read` and `Fault::Memory` are as of `read_areas`.
 
-ghost use Rattle.std.specs.Prelude.{◌≡◌, ◌≤◌, ℕ, Bool, false, true, All, List, length, Err, IfOk, IfErr, codes, string_bytes, option_map, unwrap_or};
+ghost use Rattle.std.specs.Prelude.{◌≡◌, ◌≤◌, ℕ, Bool, false, All, List, length, Err, IfOk, IfErr, codes, string_bytes, option_map, unwrap_or};
 ghost use Rattle.h3_streams.specs.Stream.{HasLeft};
 ghost use Rattle.h3_lines.specs.Pieces.{Uncut};
 ghost use Rattle.h3_lines.specs.Reads.{source_use};
@@ -22,6 +22,7 @@ ghost use Rattle.h3_command.specs.Run.{EndsLines, EndsOverAreas, RefusesAreas};
 use crate::area_names::{AreaOf, AreasOf};
 use crate::files::{in_file, slots_for, table_of};
 use crate::rows::{answer_listed_several, answer_listed_texts};
+use crate::short_names::short_names;
 use h3_index::Cell;
 use h3_lines::{AnswerError, CellFile, Fault, RunError};
 use h3_regions::laws::areas_are_lawful;
@@ -86,42 +87,15 @@ fn answer_apart<R: Source, W: Sink>(
     let zones = Zones::over(areas.cells());
     let table = table_of(alloc, &zones)?;
     let tabled = TabledZones::over(&zones, &table);
+    let short = short_names(alloc, names)?;
     let function = AreaOf {
         areas,
         tabled,
         names,
+        short: &short,
         none,
     };
     answer_listed_texts(alloc, rows, column, &function, input, out)
-}
-
-/// Writes the name of the area of each listed cell, or each row with it, unless two areas overlap.
-fn answer_unless_overlapping<R: Source, W: Sink>(
-    alloc: Global,
-    options: &AreaOptions,
-    rows: &Option<RowOptions>,
-    table: &mut AreaTable,
-    input: &mut R,
-    out: &mut W,
-) -> Result<(), RunError>
-    requires lines { All (λ name. Uncut 10 table.old.names.quotes false name false)
-        (names_in table.old.names.bytes.items table.old.names.spans.items) }
-    requires line { Uncut 10 table.old.names.quotes false (string_bytes options.now.none) false }
-    ensures { (entries : List Entry) → HoldsAreas options.now.table.rows.quotes entries table.old
-        → EndsWithAreas false options.now rows.now entries
-        (source_use R.left R.has_failed input.old input.new) result
-        (sink_use W.taken W.has_failed out.old out.new) }
-{
-    areas_are_lawful();
-    let mut slots = slots_for(alloc, table.cells.len())?;
-    let column = name_of_column(&table.title);
-    match ApartAreas::of(&mut table.cells, &mut slots) {
-        Ok(areas) => {
-            let none = options.none.as_bytes();
-            answer_apart(alloc, rows, column, areas, &table.names, none, input, out)
-        }
-        Err(refused) => Err(RunError::Error(AnswerError::File(CellFile::Zones, refused.error))),
-    }
 }
 
 /// So many numbers. `Fault::Memory` where there is none for them.
@@ -161,43 +135,8 @@ fn answer_several<R: Source, W: Sink>(
     answer_listed_several(alloc, rows, column, &function, numbers, input, out)
 }
 
-/// Writes the names of the areas of each listed cell, or each row once with each. Areas may overlap.
-fn answer_overlapping<R: Source, W: Sink>(
-    alloc: Global,
-    options: &AreaOptions,
-    rows: &Option<RowOptions>,
-    table: &mut AreaTable,
-    input: &mut R,
-    out: &mut W,
-) -> Result<(), RunError>
-    requires lines { All (λ name. Uncut 10 table.old.names.quotes false name false)
-        (names_in table.old.names.bytes.items table.old.names.spans.items) }
-    requires line { Uncut 10 table.old.names.quotes false (string_bytes options.now.none) false }
-    ensures { (entries : List Entry) → HoldsAreas options.now.table.rows.quotes entries table.old
-        → EndsWithAreas true options.now rows.now entries
-        (source_use R.left R.has_failed input.old input.new) result
-        (sink_use W.taken W.has_failed out.old out.new) }
-{
-    areas_are_lawful();
-    let mut numbers = numbers_for(alloc, table.cells.len())?;
-    let column = name_of_column(&table.title);
-    let areas = Areas::of(&mut table.cells);
-    let none = options.none.as_bytes();
-    answer_several(
-        alloc,
-        rows,
-        column,
-        areas,
-        &table.names,
-        none,
-        &mut numbers,
-        input,
-        out,
-    )
-}
-
 /// Writes the names of the areas of each listed cell, or each row once with each, unless two areas overlap
-/// and may not.
+/// and may not. If no two overlap, a cell's area is looked up by a table.
 fn answer_areas<R: Source, W: Sink>(
     alloc: Global,
     options: &AreaOptions,
@@ -214,10 +153,32 @@ fn answer_areas<R: Source, W: Sink>(
         (source_use R.left R.has_failed input.old input.new) result
         (sink_use W.taken W.has_failed out.old out.new) }
 {
-    if options.overlapping {
-        return answer_overlapping(alloc, options, rows, table, input, out);
+    areas_are_lawful();
+    let mut slots = slots_for(alloc, table.cells.len())?;
+    let column = name_of_column(&table.title);
+    let none = options.none.as_bytes();
+    match ApartAreas::of(&mut table.cells, &mut slots) {
+        Ok(areas) => answer_apart(alloc, rows, column, areas, &table.names, none, input, out),
+        Err(refused) => {
+            if !options.overlapping {
+                return Err(RunError::Error(AnswerError::File(CellFile::Zones, refused.error)));
+            }
+            let pairs = refused.pairs;
+            let mut numbers = numbers_for(alloc, pairs.len())?;
+            let areas = Areas::of(pairs);
+            answer_several(
+                alloc,
+                rows,
+                column,
+                areas,
+                &table.names,
+                none,
+                &mut numbers,
+                input,
+                out,
+            )
+        }
     }
-    answer_unless_overlapping(alloc, options, rows, table, input, out)
 }
 
 /// Reads a table of zones with names, and then writes the names of the areas of each listed cell, or each

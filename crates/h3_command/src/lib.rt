@@ -28,6 +28,7 @@ mod required;
 mod rows;
 pub mod run;
 mod sets;
+mod short_names;
 mod sizes;
 mod sum_rows;
 mod sum_tally;

@@ -11,7 +11,7 @@ ghost use Rattle.h3_lines.specs.Reads.{source_use};
 ghost use Rattle.h3_lines.specs.Write.{sink_use};
 
 use h3_index::Cell;
-use h3_lines::{CellFunction, CellJob, Itself, RunError, read_cells, take_cells_as};
+use h3_lines::{CellJob, CellOf, Itself, RunError, read_cells, take_cells_as};
 use h3_requests::RowOptions;
 use h3_rows::{take_row_cells, take_row_cells_as};
 use h3_streams::{Sink, Source};
@@ -19,7 +19,7 @@ use std::alloc::Global;
 
 /// Has a job take what a function says for the cells of a list: those on its lines, or those of its rows. An
 /// error of either is reported with its line.
-pub(crate) fn take_listed_as<F: CellFunction + Drop, V: CellJob + Drop, R: Source>(
+pub(crate) fn take_listed_as<F: CellOf + Drop, V: CellJob + Drop, R: Source>(
     alloc: Global,
     function: F,
     job: V,

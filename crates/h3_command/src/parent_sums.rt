@@ -50,6 +50,7 @@ impl NamedJob for Amounts {
     ghost taken = { λ t entries u. AmountsMore t.quotes u.quotes t.pairs.items u.pairs.items
         (option_map (λ b. b.items) t.title) (option_map (λ b. b.items) u.title) entries };
 
+    #[inline(always)]
     fn take(
         &mut self,
         cell: Option<Cell>,

@@ -20,7 +20,7 @@ use crate::rows::between_parts;
 use h3_functions::cell_to_parent;
 use h3_index::laws::numbers_are_unique;
 use h3_index::{Cell, H3Error, index_bytes};
-use h3_lines::{BLOCK, CellFunction, RunError, write_answer};
+use h3_lines::{BLOCK, CellOf, RunError, write_answer};
 use h3_regions::laws::zones_are_lawful;
 use h3_requests::RowOptions;
 use h3_streams::{Sink, Source, StreamFault};
@@ -32,7 +32,7 @@ pub(crate) struct ParentAt {
     pub(crate) res: i32,
 }
 
-impl CellFunction for ParentAt {
+impl CellOf for ParentAt {
     ghost says = { λ p. parent_at p.res };
 
     fn cell_of(&self, index: u64) -> Result<Option<Cell>, H3Error> {

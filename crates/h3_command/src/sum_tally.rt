@@ -90,8 +90,8 @@ fn add_to_each(places: &[u32], number: Number, sums: &mut [Sum])
     }
 }
 
-/// Adds a number to the sums of the areas that its cell lies in, or returns that of none with it, if there
-/// are no such areas.
+/// Adds a number to the sums of the areas that its cell lies in, or to that of none, if there are no such
+/// areas.
 ///
 /// `taken` is at least how many numbers were added before.
 pub(crate) fn add_amount<F: FindAreas>(
@@ -100,24 +100,26 @@ pub(crate) fn add_amount<F: FindAreas>(
     number: Number,
     numbers: &mut [u32],
     sums: &mut [Sum],
-    none: Sum,
+    none: &mut Sum,
     taken: u64,
-) -> Sum
+)
     requires room { F.room finder.old ≤ length numbers.old }
     requires small { All (λ p. p.1 < length sums.old) (F.areas finder.old) }
     requires taken { taken < 2 ^ 63 }
     requires few { All (λ s. sum_count s ≤ taken) sums.old }
-    requires few_none { sum_count none ≤ taken }
+    requires few_none { sum_count none.old ≤ taken }
     ensures areas { F.areas finder.new ≡ F.areas finder.old }
     ensures room { F.room finder.new ≡ F.room finder.old }
     ensures few { All (λ s. sum_count s ≤ taken + 1) sums.new }
-    ensures few_none { sum_count result ≤ taken + 1 }
-    ensures next { (amounts : List Amount) → AreAreaSums (F.areas finder.old) amounts sums.old none
-        → AreAreaSums (F.areas finder.old) (amounts ++ (cell, number_units number) ∷ []) sums.new result }
+    ensures few_none { sum_count none.new ≤ taken + 1 }
+    ensures next { (amounts : List Amount) → AreAreaSums (F.areas finder.old) amounts sums.old none.old
+        → AreAreaSums (F.areas finder.old) (amounts ++ (cell, number_units number) ∷ []) sums.new none.new }
 {
     areas_are_lawful();
     totals_are_lawful();
     let found = finder.find(cell, &mut *numbers);
     add_to_each(&numbers[..found], number, sums);
-    if found == 0 { none.plus(number) } else { none }
+    if found == 0 {
+        *none = none.plus(number);
+    }
 }

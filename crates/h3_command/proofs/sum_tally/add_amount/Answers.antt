@@ -20,7 +20,7 @@ returns-then-found-eq0-clause-next g c = λ amounts was.
     (g.F.FindAreas.areas c.args.finder.now)
     c.args.cell list c.find-found.ensures.are c.args.number c.args.sums.now c.add_to_each.new.sums
     c.add_to_each.auto.sums
-    c.add_to_each.ensures.more c.add_to_each.ensures.same c.args.none c.plus.result amounts
+    c.add_to_each.ensures.more c.add_to_each.ensures.same c.args.none.now c.plus.result amounts
     (omega (arith, length-take c.find-found.result c.find-found.new.numbers, c.if-found-eq0.true))
     (record { count = c.plus.ensures.count; units = c.plus.ensures.units }) was
 
@@ -31,7 +31,7 @@ returns-else-found-eq0-clause-next g c = λ amounts was.
     (g.F.FindAreas.areas c.args.finder.now)
     c.args.cell list c.find-found.ensures.are c.args.number c.args.sums.now c.add_to_each.new.sums
     c.add_to_each.auto.sums
-    c.add_to_each.ensures.more c.add_to_each.ensures.same c.args.none amounts
+    c.add_to_each.ensures.more c.add_to_each.ensures.same c.args.none.now amounts
     (omega (
       arith,
       length-take c.find-found.result c.find-found.new.numbers,
