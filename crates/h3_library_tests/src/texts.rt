@@ -11,7 +11,7 @@ use std::alloc::AllocError;
 
 #[test]
 fn texts_are_read(rt: HostRuntime) {
-    static ROWS: [(&str, Expected); 17] = [
+    static ROWS: [(&str, Expected); 19] = [
         ("85283473fffffff", Ok(0x85283473fffffff)),
         ("0X85283473FFFFFFF", Ok(0x85283473fffffff)),
         ("0x85283473fffffff", Ok(0x85283473fffffff)),
@@ -26,6 +26,8 @@ fn texts_are_read(rt: HostRuntime) {
         ("0x", Err(H3Error::Failed)),
         ("xyz", Err(H3Error::Failed)),
         ("0x0x1", Err(H3Error::Failed)),
+        ("0x0X85283473fffffff", Err(H3Error::Failed)),
+        ("x85283473fffffff", Err(H3Error::Failed)),
         ("85283473 fffffff", Err(H3Error::Failed)),
         ("00085283473fffffff", Err(H3Error::Failed)),
         ("fedcba9876543210f", Err(H3Error::Failed)),
@@ -78,7 +80,8 @@ fn has_bytes(index: u64, text: &[u8]) -> bool {
     front == text && are_zeros(rest)
 }
 
-/// The front of one text, a digit more at a time. Eight digits and more are plain.
+/// The front of one text, a digit more at a time, also in capitals and with `0X` in front. Eight digits
+/// and more in lower case are plain.
 #[test]
 fn one_to_sixteen_digits_are_read(rt: HostRuntime) {
     static NUMBERS: [u64; 16] = [
@@ -100,9 +103,16 @@ fn one_to_sixteen_digits_are_read(rt: HostRuntime) {
         0xfedcba9876543210,
     ];
     let text = *b"fedcba9876543210";
+    let capitals = *b"0XFEDCBA9876543210";
     for row in 0..16usize {
         let digits = &text[..row + 1];
         let number = NUMBERS[row];
+        expect_row(&rt, row, same(read_index(&capitals[..row + 3]), Ok(number)));
+        expect_row(
+            &rt,
+            row,
+            same(read_index(&capitals[2..row + 3]), Ok(number)),
+        );
         expect_row(&rt, row, same(read_index(digits), Ok(number)));
         expect_row(&rt, row, is_plain(digits, (row >= 7).then_some(number)));
         expect_row(&rt, row, has_bytes(number, digits));

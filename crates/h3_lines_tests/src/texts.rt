@@ -9,7 +9,9 @@ ghost use Rattle.h3_requests.specs.Rows.{is_counted};
 use crate::expected::{expect, expect_row};
 use h3_fakes::{Faults, FaultySink, FaultySource};
 use h3_index::H3Error;
-use h3_lines::{AnswerError, ColumnError, Fault, RunError, TextFunction, answer_each_text, split};
+use h3_lines::{
+    AnswerError, ColumnError, Fault, RunError, Text, TextFunction, answer_each_text, split,
+};
 use h3_requests::{CellField, RowOptions};
 use h3_rows::answer_rows_text;
 use std::alloc::{AllocError, Global};
@@ -31,11 +33,11 @@ impl<'n> TextFunction for Names<'n> {
 
     ghost counts_quotes = { λ f. f.quotes };
 
-    fn text(&self, index: Option<u64>, _place: &mut usize) -> Result<&[u8], H3Error> {
+    fn text(&self, index: Option<u64>, _place: &mut usize) -> Result<Text<'_>, H3Error> {
         match index {
             None => Err(H3Error::Failed),
-            Some(index) if index == P => Ok(self.name),
-            Some(_) => Ok(self.none),
+            Some(index) if index == P => Ok(Text::of(self.name)),
+            Some(_) => Ok(Text::of(self.none)),
         }
     }
 }
