@@ -32,7 +32,8 @@ pub cells_in-snoc : (hs : List ℕ) (i : ℕ) (cs : List Address) (c : Address) 
     → cells_in (take (suc i) hs) ≡ Some (cs ++ c ∷ [])
 unfolding cells_in
 cells_in-snoc [] i cs c room before here = absurd (omega (arith, room))
-cells_in-snoc (h ∷ hs) zero cs c room before here = let none : [] ≡ cs = ap (λ o. unwrap_or o []) before in rw (here, sym none) refl
+cells_in-snoc (h ∷ hs) zero cs c room before here =
+    let none : [] ≡ cs = ap (λ o. unwrap_or o []) before in rw (here, sym none) refl
 cells_in-snoc (h ∷ hs) (suc i) cs c room before here =
     let (d, ds, o, r, e) = joined-some (cell_in h) (cells_in (take i hs)) cs before in
     let rest = cells_in-snoc hs i ds c (omega (arith, room)) r here in

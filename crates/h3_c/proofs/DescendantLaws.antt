@@ -102,7 +102,8 @@ number_parent p coarse =
     let one : length (p.digits ++ 7 ∷ []) ≡ length p.digits + 1 = length-append p.digits (7 ∷ []) in
     let less : 15 - length (p.digits ++ 7 ∷ []) ≡ k = omega (arith, one) in
     let same : padded p.digits ≡ padded (p.digits ++ 7 ∷ []) =
-    ap (λ n. p.digits ++ replicate n 7) up ∙ sym (ap (λ n. (p.digits ++ 7 ∷ []) ++ replicate n 7) less ∙ append_assoc p.digits (7 ∷ []) (replicate k 7)) in
+    ap (λ n. p.digits ++ replicate n 7) up
+    ∙ sym (ap (λ n. (p.digits ++ 7 ∷ []) ++ replicate n 7) less ∙ append_assoc p.digits (7 ∷ []) (replicate k 7)) in
     let first : length (p.digits ++ 0 ∷ []) ≡ length p.digits + 1 = length-append p.digits (0 ∷ []) in
     omega (arith, first, ap (number_from_digits 8) same, value_from p 7)
 
@@ -256,7 +257,9 @@ pub all_grandchildren : (c : Address) → is_pentagon c ≡ false
     → grandchildren_below c 7 ≡ descendants c (length c.digits + 2)
 all_grandchildren c hexagon =
     let r = length c.digits + 2 in
-    let own : (d : ℕ) → descendants (child c d) r ≡ children (child c d) = λ d. (let same : r ≡ length (c.digits ++ d ∷ []) + 1 = omega (arith, length-append c.digits (d ∷ [])) in ap (descendants (child c d)) same) in
+    let own : (d : ℕ) → descendants (child c d) r ≡ children (child c d) = λ d.
+    (let same : r ≡ length (c.digits ++ d ∷ []) + 1 = omega (arith, length-append c.digits (d ∷ [])) in
+    ap (descendants (child c d)) same) in
     sym (blocks c r (omega arith) ∙ ap (λ b. flat_map (λ d. descendants (child c d) r) (steps b)) hexagon ∙ seven own)
   where
     seven : ((d : ℕ) → descendants (child c d) (length c.digits + 2) ≡ children (child c d))

@@ -50,7 +50,8 @@ pub after-full : (before ns first : List ℕ) (place i : ℕ) → length before 
 after-full before ns first place i long lt full =
     sym (ap (λ l. laid_over (before ++ l) first) (sym (take-append-drop i ns))
     ∙ ap (λ l. laid_over l first) (sym (append_assoc before (take i ns) (drop i ns)))
-    ∙ laid_over-full (before ++ take i ns) (drop i ns) first (omega (arith, length-append before (take i ns), length-take i ns, long, lt, full)))
+    ∙ laid_over-full (before ++ take i ns) (drop i ns) first
+    (omega (arith, length-append before (take i ns), length-take i ns, long, lt, full)))
 
 -- ---- how many have room
 
@@ -111,7 +112,8 @@ pub all_fitting : (f : ℕ → Result ℕ H3Error) (hs : List ℕ) (i end size r
     → fitting room (sizes_of (map f (take i hs))) ≡ fitting room (sizes_of (map f hs))
 all_fitting f hs i end size room lt is own full =
     sym (ap (fitting room) (sizes-split f hs i lt)
-    ∙ fitting-past (sizes_of (map f (take i hs))) (sizes_of (map f (drop (suc i) hs))) (result_unwrap_or (f (slice_index_or hs i 0)) 0) room (omega (arith, is, own, full)))
+    ∙ fitting-past (sizes_of (map f (take i hs))) (sizes_of (map f (drop (suc i) hs)))
+    (result_unwrap_or (f (slice_index_or hs i 0)) 0) room (omega (arith, is, own, full)))
 
 -- ---- the areas of each index
 
@@ -180,7 +182,8 @@ areas-full areas hs old i end size room is own full =
     let before = all_areas areas (take i hs) in
     let here = cell_to_areas areas (slice_index_or hs i 0) in
     sym (ap (λ l. laid_over l old) (areas-split areas hs i room)
-    ∙ laid_over-full (before ++ here) (all_areas areas (drop (suc i) hs)) old (omega (arith, length-append before here, length-all_areas areas (take i hs), is, own, full)))
+    ∙ laid_over-full (before ++ here) (all_areas areas (drop (suc i) hs)) old
+    (omega (arith, length-append before here, length-all_areas areas (take i hs), is, own, full)))
 
 -- ---- the errors are those of indexes that are no cells'
 
@@ -254,7 +257,8 @@ module _ (any : AreasInAnyOrder) (areas others : List (Address × ℕ)) (same : 
 
 -- ---- what comes where there is room, and each index given is a cell's
 
-module _ (given numbers hs : List ℕ) (room : ℕ) (cells : List Address) (enough : length given ≤ length numbers) (slots : length hs < room) (read : cells_in given ≡ Some cells) where
+module _ (given numbers hs : List ℕ) (room : ℕ) (cells : List Address) (enough : length given ≤ length numbers)
+    (slots : length hs < room) (read : cells_in given ≡ Some cells) where
   pub comes : {A : Type 0} (f : List (Address × ℕ) → A) (other stands : A)
       → if_slots given numbers hs room (if_areas given numbers f other) stands ≡ f (zip cells numbers)
   comes f other stands = rw (le-leb (length given) (length numbers) enough, lt-ltb (length hs) room slots, read) refl

@@ -64,7 +64,8 @@ module _ (found : AncestorsAreFound) (zones : List Address) (numbers : List ℕ)
   beside_zone in_order z place there above one =
       let lt : place < length zones = slice_get_within zones place z there in
       let is : get_or zones place z ≡ z = get_or_from_slice_get zones place z z there in
-      beside_at zones numbers x place z lt (rw is ((found z x).1 above)) (λ i less. not_above (get_or zones i z) (λ over.
+      beside_at zones numbers x place z lt (rw is ((found z x).1 above))
+      (λ i less. not_above (get_or zones i z) (λ over.
       let same : Some z ≡ Some (get_or zones i z) =
       one (get_or zones i z) (Contains-get_or zones i z (omega (arith, less, lt))) over in
       let eq : z ≡ get_or zones i z = ap (λ o. unwrap_or o z) same in
@@ -111,7 +112,8 @@ module _ (ancestors : AncestorsAreFound) (x : Address) where
         ])
       ]
 
-module _ (ancestors : AncestorsAreFound) (one : OneAreaAtMost) (areas pairs : List (Address × ℕ)) (alike : AreAlike areas pairs)
+module _ (ancestors : AncestorsAreFound) (one : OneAreaAtMost) (areas pairs : List (Address × ℕ))
+    (alike : AreAlike areas pairs)
     (apart : AreApart areas) (x : Address) where
   pub area_found : (n : ℕ) → LiesIn pairs x n → beside (map (λ p. p.0) areas) (map (λ p. p.1) areas) x ≡ n
   area_found n h =
@@ -187,7 +189,8 @@ numbers_next pairs old numbers i d lt room are =
     let up : i + 1 ≡ suc i = omega arith in
     let xs = map (λ p. p.1) (take i pairs) in
     let long : length xs ≡ i = length-snd pairs i (omega (arith, lt)) in
-    let more : laid_over (xs ++ (get_or pairs i d).1 ∷ []) old ≡ slice_set (laid_over xs old) (length xs) (get_or pairs i d).1 =
+    let more : laid_over (xs ++ (get_or pairs i d).1 ∷ []) old
+    ≡ slice_set (laid_over xs old) (length xs) (get_or pairs i d).1 =
     laid_over-snoc xs old (get_or pairs i d).1 (omega (arith, long, lt, room)) in
     ap (λ l. slice_set l i (get_or pairs i d).1) are
     ∙ ap (λ k. slice_set (laid_over xs old) k (get_or pairs i d).1) (sym long)

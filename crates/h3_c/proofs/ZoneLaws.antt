@@ -137,7 +137,8 @@ module _ (zones : List Address) (hs old : List ℕ) (room : length zones ≤ len
   fits : nat_le (length zones) (length old) ≡ true
   fits = le-leb (length zones) (length old) room
 
-  module _ (counts : List ℕ) (others : ℕ) (cells : List Address) (read : cells_in hs ≡ Some cells) (are : AreCounts zones cells counts others) where
+  module _ (counts : List ℕ) (others : ℕ) (cells : List Address) (read : cells_in hs ≡ Some cells)
+      (are : AreCounts zones cells counts others) where
     size : length counts ≡ length zones
     size = ap length are.each ∙ length-map_of (λ z. count_in z cells) zones
 

@@ -38,11 +38,11 @@ pub enum TableError {
     Neighbours(u8),
 
     /// The link back from the neighbor of the base cell in the direction does not undo the link.
-    #[error("the link of base cell {0} in direction {direction} is not undone by the link back", direction = .1.digit())]
+    #[error("the link of base cell {0} in direction {digit} is not undone by the link back", digit = .1.digit())]
     Reversal(u8, Direction),
 
     /// The links around the corner between the direction and the next one counter-clockwise do not
     /// agree.
-    #[error("the links around the corner of base cell {0} after direction {direction} do not agree", direction = .1.digit())]
+    #[error("the links around the corner of base cell {0} after direction {digit} do not agree", digit = .1.digit())]
     Corner(u8, Direction),
 }

@@ -34,7 +34,8 @@ in_digit_lists zero [] e small = (0, omega arith, refl)
 in_digit_lists zero (d ∷ ds) e small = absurd (omega (arith, e))
 in_digit_lists (suc n) [] e small = absurd (omega (arith, e))
 in_digit_lists (suc n) (d ∷ ds) e small =
-    in_flat (λ d. map (λ ds. d ∷ ds) (digit_lists n)) (range_with_len 0 7) d (d ∷ ds) (in_seven d small.0) (in_map (λ ds. d ∷ ds) (digit_lists n) ds (in_digit_lists n ds (omega (arith, e)) small.1))
+    in_flat (λ d. map (λ ds. d ∷ ds) (digit_lists n)) (range_with_len 0 7) d (d ∷ ds) (in_seven d small.0)
+    (in_map (λ ds. d ∷ ds) (digit_lists n) ds (in_digit_lists n ds (omega (arith, e)) small.1))
 
 in_sides : (u : Option Direction) → Contains carried u
 in_sides None = (0, omega arith, refl)
@@ -45,10 +46,12 @@ in_sides (Some I) = (4, omega arith, refl)
 in_sides (Some IK) = (5, omega arith, refl)
 in_sides (Some IJ) = (6, omega arith, refl)
 
-in_candidates : (u : Option Direction) (n : ℕ) (es : List ℕ) → length es ≡ n → AllBelowBase 7 es → Contains (candidates n) (u, es)
+in_candidates : (u : Option Direction) (n : ℕ) (es : List ℕ) → length es ≡ n → AllBelowBase 7 es
+    → Contains (candidates n) (u, es)
 unfolding candidates
 in_candidates u n es e small =
-    in_flat (λ u. map (λ es. (u, es)) (digit_lists n)) carried u (u, es) (in_sides u) (in_map (λ es. (u, es)) (digit_lists n) es (in_digit_lists n es e small))
+    in_flat (λ u. map (λ es. (u, es)) (digit_lists n)) carried u (u, es) (in_sides u)
+    (in_map (λ es. (u, es)) (digit_lists n) es (in_digit_lists n es e small))
 
 -- ---- the test
 
@@ -98,10 +101,12 @@ from_candidates n p m =
     let b = from_map (λ es. (a.0, es)) (digit_lists n) p a.2 in
     subst (λ (q : Option Direction × List ℕ). IsList n q.1) b.2 (from_digit_lists n b.0 b.1)
 
-pub sum_found : SumsAreUnique → (ds : List ℕ) (d : Direction) (u : Option Direction) (es : List ℕ) → IsSum ds d u es → found_sum ds d ≡ Some (u, es)
+pub sum_found : SumsAreUnique → (ds : List ℕ) (d : Direction) (u : Option Direction) (es : List ℕ) → IsSum ds d u es
+    → found_sum ds d ≡ Some (u, es)
 unfolding found_sum
 sum_found unique ds d u es h =
-    find_one (is_expansion ds d) (candidates (length ds)) (u, es) (in_candidates u (length ds) es h.long h.digits) (is_same _ _ h.sum) (λ p m t.
+    find_one (is_expansion ds d) (candidates (length ds)) (u, es) (in_candidates u (length ds) es h.long h.digits)
+    (is_same _ _ h.sum) (λ p m t.
     let list = from_candidates (length ds) p m in
     let sum : IsSum ds d p.0 p.1 = record { long = list.long; digits = list.small; sum = same_is _ _ t } in
     let one = unique ds d p.0 u p.1 es sum h in
@@ -109,11 +114,14 @@ sum_found unique ds d u es h =
 
 -- ---- the step
 
-pub step-pentagon : (link : Links) (s : State) (d : Direction) → is_pentagon_base s.cell.base ≡ true → step_of link s d ≡ None
+pub step-pentagon : (link : Links) (s : State) (d : Direction) → is_pentagon_base s.cell.base ≡ true
+    → step_of link s d ≡ None
 unfolding step_of
 step-pentagon link s d h = rw h refl
 
-pub step-hexagon : SumsAreUnique → (link : Links) (s : State) (d : Direction) (u : Option Direction) (es : List ℕ) → is_pentagon_base s.cell.base ≡ false → IsSum s.cell.digits (turned s.rotation d) u es → step_of link s d ≡ led_to link s u es
+pub step-hexagon : SumsAreUnique → (link : Links) (s : State) (d : Direction) (u : Option Direction) (es : List ℕ)
+    → is_pentagon_base s.cell.base ≡ false → IsSum s.cell.digits (turned s.rotation d) u es
+    → step_of link s d ≡ led_to link s u es
 unfolding step_of
 step-hexagon unique link s d u es h sum = rw (h, sum_found unique s.cell.digits (turned s.rotation d) u es sum) refl
 
@@ -123,7 +131,12 @@ steps_found exist unique link s d r = (
   λ e. record {
     from_pentagon = λ h. sym e ∙ step-pentagon link s d h;
     from_hexagon = λ h. let t = exist s.cell.digits (turned s.rotation d) in
-        record { out = t.out; list = t.list; sum = t.is; is = sym e ∙ step-hexagon unique link s d t.out t.list h t.is };
+        record {
+          out = t.out;
+          list = t.list;
+          sum = t.is;
+          is = sym e ∙ step-hexagon unique link s d t.out t.list h t.is;
+        };
   },
 )
   where

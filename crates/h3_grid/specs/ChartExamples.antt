@@ -15,26 +15,31 @@ use Rattle.h3_grid.specs.Walks.{disk, followed}
 
 -- of this disk, which lies in nineteen base cells, no step is refused: so all that is said of such disks holds of it
 disk_of_radius_2 : WritesCells (test_link Plain) (cell_of 30 []) 2
-    ((cell_of 30 [], 0) ∷ (cell_of 42 [], 1) ∷ (cell_of 41 [], 1) ∷ (cell_of 29 [], 1) ∷ (cell_of 18 [], 1) ∷ (cell_of 19 [], 1) ∷ (cell_of 31 [], 1)
-    ∷ (cell_of 43 [], 2) ∷ (cell_of 54 [], 2) ∷ (cell_of 53 [], 2) ∷ (cell_of 52 [], 2) ∷ (cell_of 40 [], 2) ∷ (cell_of 28 [], 2) ∷ (cell_of 17 [], 2)
+    ((cell_of 30 [], 0) ∷ (cell_of 42 [], 1) ∷ (cell_of 41 [], 1) ∷ (cell_of 29 [], 1) ∷ (cell_of 18 [], 1)
+    ∷ (cell_of 19 [], 1) ∷ (cell_of 31 [], 1)
+    ∷ (cell_of 43 [], 2) ∷ (cell_of 54 [], 2) ∷ (cell_of 53 [], 2) ∷ (cell_of 52 [], 2) ∷ (cell_of 40 [], 2)
+    ∷ (cell_of 28 [], 2) ∷ (cell_of 17 [], 2)
     ∷ (cell_of 6 [], 2) ∷ (cell_of 7 [], 2) ∷ (cell_of 8 [], 2) ∷ (cell_of 20 [], 2) ∷ (cell_of 32 [], 2) ∷ [])
 unfolding disk moves ring_moves followed step_of found_sum candidates digit_lists
 disk_of_radius_2 = refl
 
 -- over twisted links, the states of a disk: base cells whose frame is turned as often as the origin's have rotation 0
 twisted_states : disk_states (test_link Twisted) (cell_of 30 []) 1
-    ≡ state (cell_of 30 []) 0 ∷ state (cell_of 42 []) 0 ∷ state (cell_of 41 []) 5 ∷ state (cell_of 29 []) 5 ∷ state (cell_of 18 []) 0 ∷ state (cell_of 19 []) 1 ∷ state (cell_of 31 []) 1 ∷ []
+    ≡ state (cell_of 30 []) 0 ∷ state (cell_of 42 []) 0 ∷ state (cell_of 41 []) 5 ∷ state (cell_of 29 []) 5
+    ∷ state (cell_of 18 []) 0 ∷ state (cell_of 19 []) 1 ∷ state (cell_of 31 []) 1 ∷ []
 unfolding disk_states states_from moves ring_moves step_of found_sum candidates digit_lists
 twisted_states = refl
 
 -- so these are the states of its cells
 twisted_cells : HasStatesOf (test_link Twisted) (cell_of 30 []) 1
-    ((cell_of 30 [], 0) ∷ (cell_of 42 [], 1) ∷ (cell_of 41 [], 1) ∷ (cell_of 29 [], 1) ∷ (cell_of 18 [], 1) ∷ (cell_of 19 [], 1) ∷ (cell_of 31 [], 1) ∷ [])
+    ((cell_of 30 [], 0) ∷ (cell_of 42 [], 1) ∷ (cell_of 41 [], 1) ∷ (cell_of 29 [], 1) ∷ (cell_of 18 [], 1)
+    ∷ (cell_of 19 [], 1) ∷ (cell_of 31 [], 1) ∷ [])
 twisted_cells = ap (map (λ (s : State). s.cell)) twisted_states
 
 -- over links whose corners do not close, a disk of which no step is refused
 skew_disk : WritesCells (test_link Skew) (cell_of 30 []) 1
-    ((cell_of 30 [], 0) ∷ (cell_of 42 [], 1) ∷ (cell_of 41 [], 1) ∷ (cell_of 28 [], 1) ∷ (cell_of 17 [], 1) ∷ (cell_of 18 [], 1) ∷ (cell_of 31 [], 1) ∷ [])
+    ((cell_of 30 [], 0) ∷ (cell_of 42 [], 1) ∷ (cell_of 41 [], 1) ∷ (cell_of 28 [], 1) ∷ (cell_of 17 [], 1)
+    ∷ (cell_of 18 [], 1) ∷ (cell_of 31 [], 1) ∷ [])
 unfolding disk moves ring_moves followed step_of found_sum candidates digit_lists
 skew_disk = refl
 

@@ -12,7 +12,9 @@ side_before sides_left = slice_index_or sides (5 - sides_left) I
 -- the moves of a disk that are left: steps of this side, sides of this ring, and rings
 unfoldable pub moves_left : ℕ → ℕ → ℕ → ℕ → List Move
 moves_left ring steps sides_left rings =
-    replicate steps (write ring (side_before sides_left)) ++ (flat_map (side_moves ring) (drop (6 - sides_left) sides) ++ flat_map ring_moves (range_with_len (ring + 1) rings))
+    replicate steps (write ring (side_before sides_left))
+    ++ (flat_map (side_moves ring) (drop (6 - sides_left) sides)
+    ++ flat_map ring_moves (range_with_len (ring + 1) rings))
 
 -- the directions of the steps that are left around a ring: steps of this side, and sides
 unfoldable pub directions_left : ℕ → ℕ → ℕ → List Direction

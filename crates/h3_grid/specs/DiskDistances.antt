@@ -28,7 +28,8 @@ HasDistances link c k cells = (j : ℕ) → j ≤ k → (y : Address) → IsWrit
 -- RingsAreDistances: a disk of which no step is refused has distances, over sound links
 abbrev pub RingsAreDistances : Type 0
 RingsAreDistances =
-    (link : Links) (c : Address) (k : ℕ) (cells : List (Address × ℕ)) → IsSound link → IsCell c → WritesCells link c k cells → HasDistances link c k cells
+    (link : Links) (c : Address) (k : ℕ) (cells : List (Address × ℕ)) → IsSound link → IsCell c
+    → WritesCells link c k cells → HasDistances link c k cells
 
 -- a sum of at most n units
 pub data IsSumOfUnits : ℕ → Eisenstein → Type 0 where

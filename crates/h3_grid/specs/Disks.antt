@@ -13,5 +13,7 @@ use Rattle.h3_grid.specs.Walks.{followed}
 -- the cells that are still to come, with their rings, and the error where a step is refused
 unfoldable pub disk_left : Disk → List (Result (Address × ℕ) H3Error)
 disk_left walk =
-    let rest = followed (link_of walk.table.now) (state walk.cell walk.rotation) (moves_left walk.ring walk.steps walk.sides walk.rings) in
+    let rest =
+    followed (link_of walk.table.now) (state walk.cell walk.rotation)
+    (moves_left walk.ring walk.steps walk.sides walk.rings) in
     if walk.begun then rest else Ok (walk.cell, 0) ∷ rest

@@ -35,7 +35,8 @@ StepsReverse link =
 -- StepsDiffer: steps in different directions lead to different cells
 abbrev pub StepsDiffer : Links → Type 0
 StepsDiffer link =
-    (x y z : State) (d e : Direction) → IsState x → step_of link x d ≡ Some y → step_of link x e ≡ Some z → y.cell ≡ z.cell → d ≡ e
+    (x y z : State) (d e : Direction) → IsState x → step_of link x d ≡ Some y → step_of link x e ≡ Some z
+    → y.cell ≡ z.cell → d ≡ e
 
 -- StepsLeave: no step stays
 abbrev pub StepsLeave : Links → Type 0
@@ -44,7 +45,8 @@ StepsLeave link = (x y : State) (d : Direction) → IsState x → step_of link x
 -- StepsCloseTriangles: the cells in a direction and in the next one are a step apart
 abbrev pub StepsCloseTriangles : Links → Type 0
 StepsCloseTriangles link =
-    (x y z : State) (d : Direction) → IsState x → step_of link x d ≡ Some y → step_of link x (turned_once d) ≡ Some z → step_of link y (turned 2 d) ≡ Some z
+    (x y z : State) (d : Direction) → IsState x → step_of link x d ≡ Some y → step_of link x (turned_once d) ≡ Some z
+    → step_of link y (turned 2 d) ≡ Some z
 
 -- ---- disks
 
@@ -59,7 +61,8 @@ IfWritten link c k P = (cells : List (Address × ℕ)) → WritesCells link c k 
 -- DisksHaveSizes: such a disk has 3k(k + 1) + 1 cells
 abbrev pub DisksHaveSizes : Type 0
 DisksHaveSizes =
-    (link : Links) (c : Address) (k : ℕ) (cells : List (Address × ℕ)) → WritesCells link c k cells → length cells ≡ 3 * k * (k + 1) + 1
+    (link : Links) (c : Address) (k : ℕ) (cells : List (Address × ℕ)) → WritesCells link c k cells
+    → length cells ≡ 3 * k * (k + 1) + 1
 
 -- MovesFollowTheSpiral: the moves up to the m-th write add up to the m-th place of the spiral
 abbrev pub MovesFollowTheSpiral : Type 0
@@ -81,5 +84,6 @@ pub record IsChartedInside (c : Address) (k : ℕ) (cells : List (Address × ℕ
 -- DisksInsideAreCharted: it is so where all cells are in the origin's base cell, over sound links
 abbrev pub DisksInsideAreCharted : Type 0
 DisksInsideAreCharted =
-    (link : Links) (c : Address) (k : ℕ) (cells : List (Address × ℕ)) → IsSound link → IsCell c → WritesCells link c k cells → All (λ i. i.0.base ≡ c.base) cells
+    (link : Links) (c : Address) (k : ℕ) (cells : List (Address × ℕ)) → IsSound link → IsCell c
+    → WritesCells link c k cells → All (λ i. i.0.base ≡ c.base) cells
     → IsChartedInside c k cells

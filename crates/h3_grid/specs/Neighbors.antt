@@ -65,7 +65,8 @@ are_neighbors link x y =
 -- DirectionsAreFound: the function that looks for the direction finds it, and it is the only one
 abbrev pub DirectionsAreFound : Links → Type 0
 DirectionsAreFound link =
-    (x y : Address) (d : Direction) → IsCell x → IsCell y → (direction_to link x y ≡ Some d) ↔ (neighbor link x d ≡ Some y)
+    (x y : Address) (d : Direction) → IsCell x → IsCell y
+    → (direction_to link x y ≡ Some d) ↔ (neighbor link x d ≡ Some y)
 
 -- NeighborsAreFound: `are_neighbors` is true exactly of neighbors
 abbrev pub NeighborsAreFound : Links → Type 0

@@ -17,4 +17,5 @@ ring_left walk =
     let link = link_of walk.table.now in
     let left = directions_left walk.radius walk.steps walk.sides in
     if walk.begun then ring_round link walk.first (state walk.cell walk.rotation) left
-    else or_refused (stepped link (Some (state walk.cell 0)) (replicate walk.radius I)) (λ s. Ok s.cell ∷ ring_round link s.cell s left)
+    else or_refused (stepped link (Some (state walk.cell 0)) (replicate walk.radius I))
+    (λ s. Ok s.cell ∷ ring_round link s.cell s left)

@@ -31,7 +31,8 @@ state c rot = record { cell = c; rotation = rot }
 -- rotation. Pentagon base cells are not entered
 abbrev pub crossed : ℕ × ℕ → ℕ → List ℕ → Option State
 crossed link rot es =
-    if is_pentagon_base link.0 then None else Some (state (cell_of link.0 (map (digit_turned link.1) es)) ((rot + link.1) % 6))
+    if is_pentagon_base link.0 then None
+    else Some (state (cell_of link.0 (map (digit_turned link.1) es)) ((rot + link.1) % 6))
 
 -- where a sum leads from a state: to the cell of its digits, or across the border where it lies
 abbrev pub led_to : Links → State → Option Direction → List ℕ → Option State
@@ -93,4 +94,5 @@ step_of link s d =
 
 -- StepsAreFound: `step_of` is the step
 abbrev pub StepsAreFound : Type 0
-StepsAreFound = (link : Links) (s : State) (d : Direction) (r : Option State) → IsStep link s d r ↔ (step_of link s d ≡ r)
+StepsAreFound =
+    (link : Links) (s : State) (d : Direction) (r : Option State) → IsStep link s d r ↔ (step_of link s d ≡ r)

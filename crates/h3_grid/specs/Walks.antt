@@ -24,7 +24,8 @@ noted written c r rest = if written then Ok (c, r) ∷ rest else rest
 -- the cells that moves from a state write, with their rings, up to the first step that is refused, and then the error
 unfoldable pub followed : Links → State → List Move → List (Result (Address × ℕ) H3Error)
 followed link s [] = []
-followed link s (m ∷ ms) = or_refused (step_of link s m.direction) (λ t. noted m.written t.cell m.ring (followed link t ms))
+followed link s (m ∷ ms) =
+    or_refused (step_of link s m.direction) (λ t. noted m.written t.cell m.ring (followed link t ms))
 
 -- disk link c k: the cells that the moves lead to and write, with their rings, up to the first step that is refused,
 -- and then the error
@@ -56,4 +57,6 @@ stepped link (Some s) (d ∷ ds) = stepped link (step_of link s d) ds
 --
 -- the ring of radius k around c: out to it by k steps I, and around it by k steps for each side
 unfoldable pub ring : Links → Address → ℕ → List (Result Address H3Error)
-ring link c k = or_refused (stepped link (Some (state c 0)) (replicate k I)) (λ s. Ok s.cell ∷ ring_round link s.cell s (flat_map (replicate k) sides))
+ring link c k =
+    or_refused (stepped link (Some (state c 0)) (replicate k I))
+    (λ s. Ok s.cell ∷ ring_round link s.cell s (flat_map (replicate k) sides))

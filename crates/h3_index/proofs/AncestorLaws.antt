@@ -8,11 +8,13 @@ use Rattle.std.proofs.lemmas.List.{length-take-le}
 use Rattle.h3_index.specs.Cell.{Address, IsCell, leading}
 use Rattle.h3_index.specs.Descendants.{along, ancestor_at, IsDescendant}
 
-same : (b : ℕ) (xs ys : List ℕ) → xs ≡ ys → ◌≡◌ {A = Address} (record { base = b; digits = xs }) (record { base = b; digits = ys })
+same : (b : ℕ) (xs ys : List ℕ) → xs ≡ ys
+    → ◌≡◌ {A = Address} (record { base = b; digits = xs }) (record { base = b; digits = ys })
 same b xs ys e = ap {B = Address} (λ zs. record { base = b; digits = zs }) e
 
 pub address_same : (a b : Address) → a.base ≡ b.base → a.digits ≡ b.digits → a ≡ b
-address_same a b e f = same a.base a.digits b.digits f ∙ ap {B = Address} (λ n. record { base = n; digits = b.digits }) e
+address_same a b e f =
+    same a.base a.digits b.digits f ∙ ap {B = Address} (λ n. record { base = n; digits = b.digits }) e
 
 pub length-ancestor_at : (c : Address) (q : ℕ) → q ≤ length c.digits → length (ancestor_at c q).digits ≡ q
 length-ancestor_at c q h = length-take-le q c.digits h
@@ -60,9 +62,15 @@ leading-zeros_after (zero ∷ xs) k = leading-zeros_after xs k
 leading-zeros_after (suc x ∷ xs) k = let z = not_zero x in rw z refl
 
 -- a cell has a descendant at each finer resolution
-pub center : (c : Address) (s : ℕ) → IsCell c → length c.digits ≤ s → s < 16 → IsDescendant c s (along c (replicate (s - length c.digits) 0))
+pub center : (c : Address) (s : ℕ) → IsCell c → length c.digits ≤ s → s < 16
+    → IsDescendant c s (along c (replicate (s - length c.digits) 0))
 center c s h le fine =
-    let size : length (c.digits ++ replicate (s - length c.digits) 0) ≡ s = omega (arith, length-append c.digits (replicate (s - length c.digits) 0), length-replicate {A = ℕ} (s - length c.digits) 0) in
+    let size : length (c.digits ++ replicate (s - length c.digits) 0) ≡ s =
+    omega (
+      arith,
+      length-append c.digits (replicate (s - length c.digits) 0),
+      length-replicate {A = ℕ} (s - length c.digits) 0,
+    ) in
     record {
       valid = record {
         base_small = h.base_small;

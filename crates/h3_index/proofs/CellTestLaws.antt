@@ -24,7 +24,8 @@ not_deleted-true true d h = let other = h refl in let test : (d == 1) ≡ false 
 
 pub true-not_deleted : (p : Bool) (d : ℕ) → not (p && d == 1) ≡ true → p ≡ true → d ≢ 1
 true-not_deleted false d h e = absurd (cc)
-true-not_deleted true d h e = λ is. let test : (d == 1) ≡ true = grind (arith, nat_tests) in let no : not (true && d == 1) ≡ false = rw test refl in cc
+true-not_deleted true d h e = λ is.
+    let test : (d == 1) ≡ true = grind (arith, nat_tests) in let no : not (true && d == 1) ≡ false = rw test refl in cc
 
 pub is_cell-true : (c : Address) → IsCell c → is_cell c ≡ true
 is_cell-true c h =

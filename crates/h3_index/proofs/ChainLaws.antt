@@ -6,7 +6,8 @@ use Rattle.std.proofs.Math.ListN.{length-replicate}
 use Rattle.h3_index.specs.Laws.{IsChain}
 use Rattle.h3_index.specs.Paths.{paths, next_below, next_path, AreLinked}
 
-pub links_append : {A : Type 0} (f : A → Option A) (x : A) (xs : List A) (y : A) (ys : List A) (z : Option A) → AreLinked f x xs (Some y) → AreLinked f y ys z → AreLinked f x (xs ++ y ∷ ys) z
+pub links_append : {A : Type 0} (f : A → Option A) (x : A) (xs : List A) (y : A) (ys : List A) (z : Option A)
+    → AreLinked f x xs (Some y) → AreLinked f y ys z → AreLinked f x (xs ++ y ∷ ys) z
 links_append f x [] y ys z h k = (h, k)
 links_append f x (w ∷ xs) y ys z h k = (h.0, links_append f w xs y ys z h.1 k)
 
@@ -15,7 +16,9 @@ AllLong n [] = Unit {0}
 AllLong n (x ∷ xs) = (length x ≡ n) × AllLong n xs
 
 -- the digits below one digit
-block : (p : Bool) (d n : ℕ) (x : List ℕ) (xs : List (List ℕ)) → length x ≡ n → AllLong n xs → AreLinked (next_path (p && d == 0)) x xs None → AreLinked (next_path p) (d ∷ x) (map (λ ds. d ∷ ds) xs) (next_below p d n None)
+block : (p : Bool) (d n : ℕ) (x : List ℕ) (xs : List (List ℕ)) → length x ≡ n → AllLong n xs
+    → AreLinked (next_path (p && d == 0)) x xs None
+    → AreLinked (next_path p) (d ∷ x) (map (λ ds. d ∷ ds) xs) (next_below p d n None)
 block p d n x [] e all h = rw (e, h) refl
 block p d n x (y ∷ ys) e all h = (rw h.0 refl, block p d n y ys all.0 all.1 h.1)
 
@@ -45,23 +48,47 @@ chain false (suc n) =
     let b6 = block false 6 n z c.others size c.long c.links in
     let l6 = long_map 6 n c.others c.long in
     let r5 = map (λ es. 5 ∷ es) c.others ++ (6 ∷ z) ∷ r6 in
-    let b5 = links_append (next_path false) (5 ∷ z) (map (λ es. 5 ∷ es) c.others) (6 ∷ z) r6 None (block false 5 n z c.others size c.long c.links) b6 in
-    let l5 = long_append (suc n) (map (λ es. 5 ∷ es) c.others) ((6 ∷ z) ∷ r6) (long_map 5 n c.others c.long) (ap suc size, l6) in
+    let b5 =
+    links_append (next_path false) (5 ∷ z) (map (λ es. 5 ∷ es) c.others) (6 ∷ z) r6 None
+    (block false 5 n z c.others size c.long c.links) b6 in
+    let l5 =
+    long_append (suc n) (map (λ es. 5 ∷ es) c.others) ((6 ∷ z) ∷ r6) (long_map 5 n c.others c.long)
+    (ap suc size, l6) in
     let r4 = map (λ es. 4 ∷ es) c.others ++ (5 ∷ z) ∷ r5 in
-    let b4 = links_append (next_path false) (4 ∷ z) (map (λ es. 4 ∷ es) c.others) (5 ∷ z) r5 None (block false 4 n z c.others size c.long c.links) b5 in
-    let l4 = long_append (suc n) (map (λ es. 4 ∷ es) c.others) ((5 ∷ z) ∷ r5) (long_map 4 n c.others c.long) (ap suc size, l5) in
+    let b4 =
+    links_append (next_path false) (4 ∷ z) (map (λ es. 4 ∷ es) c.others) (5 ∷ z) r5 None
+    (block false 4 n z c.others size c.long c.links) b5 in
+    let l4 =
+    long_append (suc n) (map (λ es. 4 ∷ es) c.others) ((5 ∷ z) ∷ r5) (long_map 4 n c.others c.long)
+    (ap suc size, l5) in
     let r3 = map (λ es. 3 ∷ es) c.others ++ (4 ∷ z) ∷ r4 in
-    let b3 = links_append (next_path false) (3 ∷ z) (map (λ es. 3 ∷ es) c.others) (4 ∷ z) r4 None (block false 3 n z c.others size c.long c.links) b4 in
-    let l3 = long_append (suc n) (map (λ es. 3 ∷ es) c.others) ((4 ∷ z) ∷ r4) (long_map 3 n c.others c.long) (ap suc size, l4) in
+    let b3 =
+    links_append (next_path false) (3 ∷ z) (map (λ es. 3 ∷ es) c.others) (4 ∷ z) r4 None
+    (block false 3 n z c.others size c.long c.links) b4 in
+    let l3 =
+    long_append (suc n) (map (λ es. 3 ∷ es) c.others) ((4 ∷ z) ∷ r4) (long_map 3 n c.others c.long)
+    (ap suc size, l4) in
     let r2 = map (λ es. 2 ∷ es) c.others ++ (3 ∷ z) ∷ r3 in
-    let b2 = links_append (next_path false) (2 ∷ z) (map (λ es. 2 ∷ es) c.others) (3 ∷ z) r3 None (block false 2 n z c.others size c.long c.links) b3 in
-    let l2 = long_append (suc n) (map (λ es. 2 ∷ es) c.others) ((3 ∷ z) ∷ r3) (long_map 2 n c.others c.long) (ap suc size, l3) in
+    let b2 =
+    links_append (next_path false) (2 ∷ z) (map (λ es. 2 ∷ es) c.others) (3 ∷ z) r3 None
+    (block false 2 n z c.others size c.long c.links) b3 in
+    let l2 =
+    long_append (suc n) (map (λ es. 2 ∷ es) c.others) ((3 ∷ z) ∷ r3) (long_map 2 n c.others c.long)
+    (ap suc size, l3) in
     let r1 = map (λ es. 1 ∷ es) c.others ++ (2 ∷ z) ∷ r2 in
-    let b1 = links_append (next_path false) (1 ∷ z) (map (λ es. 1 ∷ es) c.others) (2 ∷ z) r2 None (block false 1 n z c.others size c.long c.links) b2 in
-    let l1 = long_append (suc n) (map (λ es. 1 ∷ es) c.others) ((2 ∷ z) ∷ r2) (long_map 1 n c.others c.long) (ap suc size, l2) in
+    let b1 =
+    links_append (next_path false) (1 ∷ z) (map (λ es. 1 ∷ es) c.others) (2 ∷ z) r2 None
+    (block false 1 n z c.others size c.long c.links) b2 in
+    let l1 =
+    long_append (suc n) (map (λ es. 1 ∷ es) c.others) ((2 ∷ z) ∷ r2) (long_map 1 n c.others c.long)
+    (ap suc size, l2) in
     let r0 = map (λ es. 0 ∷ es) c.others ++ (1 ∷ z) ∷ r1 in
-    let b0 = links_append (next_path false) (0 ∷ z) (map (λ es. 0 ∷ es) c.others) (1 ∷ z) r1 None (block false 0 n z c.others size c.long c.links) b1 in
-    let l0 = long_append (suc n) (map (λ es. 0 ∷ es) c.others) ((1 ∷ z) ∷ r1) (long_map 0 n c.others c.long) (ap suc size, l1) in
+    let b0 =
+    links_append (next_path false) (0 ∷ z) (map (λ es. 0 ∷ es) c.others) (1 ∷ z) r1 None
+    (block false 0 n z c.others size c.long c.links) b1 in
+    let l0 =
+    long_append (suc n) (map (λ es. 0 ∷ es) c.others) ((1 ∷ z) ∷ r1) (long_map 0 n c.others c.long)
+    (ap suc size, l1) in
     record { others = r0; is = rw (c.is, append-nil) refl; long = l0; links = b0 }
 chain true (suc n) =
     let c = chain false n in
@@ -72,20 +99,40 @@ chain true (suc n) =
     let b6 = block true 6 n z c.others size c.long c.links in
     let l6 = long_map 6 n c.others c.long in
     let r5 = map (λ es. 5 ∷ es) c.others ++ (6 ∷ z) ∷ r6 in
-    let b5 = links_append (next_path true) (5 ∷ z) (map (λ es. 5 ∷ es) c.others) (6 ∷ z) r6 None (block true 5 n z c.others size c.long c.links) b6 in
-    let l5 = long_append (suc n) (map (λ es. 5 ∷ es) c.others) ((6 ∷ z) ∷ r6) (long_map 5 n c.others c.long) (ap suc size, l6) in
+    let b5 =
+    links_append (next_path true) (5 ∷ z) (map (λ es. 5 ∷ es) c.others) (6 ∷ z) r6 None
+    (block true 5 n z c.others size c.long c.links) b6 in
+    let l5 =
+    long_append (suc n) (map (λ es. 5 ∷ es) c.others) ((6 ∷ z) ∷ r6) (long_map 5 n c.others c.long)
+    (ap suc size, l6) in
     let r4 = map (λ es. 4 ∷ es) c.others ++ (5 ∷ z) ∷ r5 in
-    let b4 = links_append (next_path true) (4 ∷ z) (map (λ es. 4 ∷ es) c.others) (5 ∷ z) r5 None (block true 4 n z c.others size c.long c.links) b5 in
-    let l4 = long_append (suc n) (map (λ es. 4 ∷ es) c.others) ((5 ∷ z) ∷ r5) (long_map 4 n c.others c.long) (ap suc size, l5) in
+    let b4 =
+    links_append (next_path true) (4 ∷ z) (map (λ es. 4 ∷ es) c.others) (5 ∷ z) r5 None
+    (block true 4 n z c.others size c.long c.links) b5 in
+    let l4 =
+    long_append (suc n) (map (λ es. 4 ∷ es) c.others) ((5 ∷ z) ∷ r5) (long_map 4 n c.others c.long)
+    (ap suc size, l5) in
     let r3 = map (λ es. 3 ∷ es) c.others ++ (4 ∷ z) ∷ r4 in
-    let b3 = links_append (next_path true) (3 ∷ z) (map (λ es. 3 ∷ es) c.others) (4 ∷ z) r4 None (block true 3 n z c.others size c.long c.links) b4 in
-    let l3 = long_append (suc n) (map (λ es. 3 ∷ es) c.others) ((4 ∷ z) ∷ r4) (long_map 3 n c.others c.long) (ap suc size, l4) in
+    let b3 =
+    links_append (next_path true) (3 ∷ z) (map (λ es. 3 ∷ es) c.others) (4 ∷ z) r4 None
+    (block true 3 n z c.others size c.long c.links) b4 in
+    let l3 =
+    long_append (suc n) (map (λ es. 3 ∷ es) c.others) ((4 ∷ z) ∷ r4) (long_map 3 n c.others c.long)
+    (ap suc size, l4) in
     let r2 = map (λ es. 2 ∷ es) c.others ++ (3 ∷ z) ∷ r3 in
-    let b2 = links_append (next_path true) (2 ∷ z) (map (λ es. 2 ∷ es) c.others) (3 ∷ z) r3 None (block true 2 n z c.others size c.long c.links) b3 in
-    let l2 = long_append (suc n) (map (λ es. 2 ∷ es) c.others) ((3 ∷ z) ∷ r3) (long_map 2 n c.others c.long) (ap suc size, l3) in
+    let b2 =
+    links_append (next_path true) (2 ∷ z) (map (λ es. 2 ∷ es) c.others) (3 ∷ z) r3 None
+    (block true 2 n z c.others size c.long c.links) b3 in
+    let l2 =
+    long_append (suc n) (map (λ es. 2 ∷ es) c.others) ((3 ∷ z) ∷ r3) (long_map 2 n c.others c.long)
+    (ap suc size, l3) in
     let r0 = map (λ es. 0 ∷ es) c0.others ++ (2 ∷ z) ∷ r2 in
-    let b0 = links_append (next_path true) (0 ∷ z) (map (λ es. 0 ∷ es) c0.others) (2 ∷ z) r2 None (block true 0 n z c0.others size c0.long c0.links) b2 in
-    let l0 = long_append (suc n) (map (λ es. 0 ∷ es) c0.others) ((2 ∷ z) ∷ r2) (long_map 0 n c0.others c0.long) (ap suc size, l2) in
+    let b0 =
+    links_append (next_path true) (0 ∷ z) (map (λ es. 0 ∷ es) c0.others) (2 ∷ z) r2 None
+    (block true 0 n z c0.others size c0.long c0.links) b2 in
+    let l0 =
+    long_append (suc n) (map (λ es. 0 ∷ es) c0.others) ((2 ∷ z) ∷ r2) (long_map 0 n c0.others c0.long)
+    (ap suc size, l2) in
     record { others = r0; is = rw (c0.is, c.is, append-nil) refl; long = l0; links = b0 }
 
 length-map' : (d : ℕ) (xs : List (List ℕ)) → length (map (λ ds. d ∷ ds) xs) ≡ length xs
@@ -101,8 +148,11 @@ pub sixths : (n : ℕ) → (k : ℕ) × (7 ^ n ≡ 6 * k + 1) × (length (paths 
 unfolding paths
 sixths zero = (0, refl, refl)
 sixths (suc n) =
-    let h = sixths n in
-    (7 * h.0 + 1, rw (pow-suc 7 n) (omega (arith, h.1)), simp (length-append, length-map') (omega (arith, h.1, h.2, count n)))
+    let h = sixths n in (
+      7 * h.0 + 1,
+      rw (pow-suc 7 n) (omega (arith, h.1)),
+      simp (length-append, length-map') (omega (arith, h.1, h.2, count n)),
+    )
 
 pub count_pentagon : (n : ℕ) → length (paths true n) ≡ 1 + 5 * ((7 ^ n - 1) / 6)
 count_pentagon n = let h = sixths n in omega (arith, h.1, h.2)

@@ -21,11 +21,15 @@ use Rattle.h3_index.proofs.CellTestLaws.{is_cell-true, not_deleted-true, true-is
 abbrev edge_head : DirectedEdge → ℕ
 edge_head e = 2 ^ 14 + e.direction * 2 ^ 11 + head_of e.origin
 
-edge_number_is : (e : DirectedEdge) → IsEdge e → edge_number e ≡ edge_head e * 2 ^ 45 + number_from_digits 8 (padded e.origin.digits)
+edge_number_is : (e : DirectedEdge) → IsEdge e
+    → edge_number e ≡ edge_head e * 2 ^ 45 + number_from_digits 8 (padded e.origin.digits)
 unfolding edge_number
 edge_number_is e h = omega (arith, number_of_is e.origin h.origin_cell)
 
-fields_are : (d res base low : ℕ) → d < 8 → res < 16 → base < 128 → low < 2 ^ 45 → ((2 ^ 14 + d * 2 ^ 11 + (2 ^ 14 + res * 2 ^ 7 + base)) * 2 ^ 45 + low) / 2 ^ 52 % 16 ≡ res × ((2 ^ 14 + d * 2 ^ 11 + (2 ^ 14 + res * 2 ^ 7 + base)) * 2 ^ 45 + low) / 2 ^ 45 % 128 ≡ base × ((2 ^ 14 + d * 2 ^ 11 + (2 ^ 14 + res * 2 ^ 7 + base)) * 2 ^ 45 + low) / 2 ^ 56 % 8 ≡ d
+fields_are : (d res base low : ℕ) → d < 8 → res < 16 → base < 128 → low < 2 ^ 45
+    → ((2 ^ 14 + d * 2 ^ 11 + (2 ^ 14 + res * 2 ^ 7 + base)) * 2 ^ 45 + low) / 2 ^ 52 % 16 ≡ res
+    × ((2 ^ 14 + d * 2 ^ 11 + (2 ^ 14 + res * 2 ^ 7 + base)) * 2 ^ 45 + low) / 2 ^ 45 % 128 ≡ base
+    × ((2 ^ 14 + d * 2 ^ 11 + (2 ^ 14 + res * 2 ^ 7 + base)) * 2 ^ 45 + low) / 2 ^ 56 % 8 ≡ d
 fields_are d res base low o p q r =
     (omega (arith, o, p, q, r), omega (arith, o, p, q, r), omega (arith, o, p, q, r))
 
@@ -33,9 +37,12 @@ pub directed_edge_in-number : (e : DirectedEdge) → IsEdge e → directed_edge_
 unfolding directed_edge_in address_in
 directed_edge_in-number e h =
     let cell = h.origin_cell in
-    let f = fields_are e.direction (length e.origin.digits) e.origin.base (number_from_digits 8 (padded e.origin.digits)) (omega (arith, h.direction_small)) cell.coarse (omega (arith, cell.base_small)) (low_small e.origin cell) in
+    let f =
+    fields_are e.direction (length e.origin.digits) e.origin.base (number_from_digits 8 (padded e.origin.digits))
+    (omega (arith, h.direction_small)) cell.coarse (omega (arith, cell.base_small)) (low_small e.origin cell) in
     let digits = digits-under (edge_head e) e.origin.digits cell.coarse cell.digits_small in
-    let whole : take (length e.origin.digits) (padded e.origin.digits) ≡ e.origin.digits = take-append_seam e.origin.digits (replicate (15 - length e.origin.digits) 7) in
+    let whole : take (length e.origin.digits) (padded e.origin.digits) ≡ e.origin.digits =
+    take-append_seam e.origin.digits (replicate (15 - length e.origin.digits) 7) in
     rw (edge_number_is e h, digits, f.0, f.1, f.2, whole) refl
 
 pub is_number_of_edge : (e : DirectedEdge) → IsEdge e → IsEdgeNumber (edge_number e)
@@ -48,7 +55,8 @@ direction-in m = refl
 
 -- ---- the bits of the origin, and those above them
 
-bits_are : (n d m : ℕ) → n / 2 ^ 56 ≡ 8 → d < 8 → m ≡ n + 2 ^ 59 + d * 2 ^ 56 → m % 2 ^ 56 + 2 ^ 59 ≡ n × m / 2 ^ 59 ≡ 2 × m / 2 ^ 56 % 8 ≡ d
+bits_are : (n d m : ℕ) → n / 2 ^ 56 ≡ 8 → d < 8 → m ≡ n + 2 ^ 59 + d * 2 ^ 56
+    → m % 2 ^ 56 + 2 ^ 59 ≡ n × m / 2 ^ 59 ≡ 2 × m / 2 ^ 56 % 8 ≡ d
 bits_are n d m h small e = (omega (arith, h, small, e), omega (arith, h, small, e), omega (arith, h, small, e))
 
 pub record HasBits (e : DirectedEdge) (m : ℕ) : Type 0 where
@@ -59,7 +67,9 @@ pub record HasBits (e : DirectedEdge) (m : ℕ) : Type 0 where
 pub bits_of : (e : DirectedEdge) (m : ℕ) → IsEdge e → edge_number e ≡ m → HasBits e m
 unfolding edge_number
 bits_of e m h is =
-    let b = bits_are (number_of e.origin) e.direction m (mode-number_of e.origin h.origin_cell) (omega (arith, h.direction_small)) (sym is) in
+    let b =
+    bits_are (number_of e.origin) e.direction m (mode-number_of e.origin h.origin_cell)
+    (omega (arith, h.direction_small)) (sym is) in
     record { origin = b.0; mode = b.1; direction = b.2 }
 
 -- the origin's number, as it is read from that of an edge
@@ -67,7 +77,8 @@ pub record IsOrigin (e : DirectedEdge) (n : ℕ) : Type 0 where
   pub valid : IsCell e.origin
   pub is : n ≡ number_of e.origin
 
-pub origin_inside : (e : DirectedEdge) (m n : ℕ) → IsEdgeNumber m → directed_edge_in m ≡ e → n ≡ m % 2 ^ 56 + 2 ^ 59 → IsOrigin e n
+pub origin_inside : (e : DirectedEdge) (m n : ℕ) → IsEdgeNumber m → directed_edge_in m ≡ e → n ≡ m % 2 ^ 56 + 2 ^ 59
+    → IsOrigin e n
 origin_inside e m n h is at =
     let valid : IsEdge e = subst IsEdge is h.valid in
     let number : edge_number e ≡ m = ap edge_number (sym is) ∙ h.is in
@@ -77,7 +88,8 @@ number_is : (n d m : ℕ) → m % 2 ^ 56 + 2 ^ 59 ≡ n → m / 2 ^ 59 ≡ 2 →
 number_is n d m origin mode direction = omega (arith, origin, mode, direction)
 
 -- the number of a cell and a direction that stand in a number of mode 2
-pub from_bits : (c : Address) (d m : ℕ) → m % 2 ^ 56 + 2 ^ 59 ≡ number_of c → m / 2 ^ 59 ≡ 2 → m / 2 ^ 56 % 8 ≡ d → edge_number (directed_edge c d) ≡ m
+pub from_bits : (c : Address) (d m : ℕ) → m % 2 ^ 56 + 2 ^ 59 ≡ number_of c → m / 2 ^ 59 ≡ 2 → m / 2 ^ 56 % 8 ≡ d
+    → edge_number (directed_edge c d) ≡ m
 unfolding edge_number
 from_bits c d m = number_is (number_of c) d m
 
@@ -102,7 +114,8 @@ true-has_edge c d h e =
 
 is_edge-true : (e : DirectedEdge) → IsEdge e → is_edge e ≡ true
 is_edge-true e h =
-    both_true (is_cell-true e.origin h.origin_cell) (has_edge-true e.origin e.direction h.some_direction h.direction_small h.not_deleted)
+    both_true (is_cell-true e.origin h.origin_cell)
+    (has_edge-true e.origin e.direction h.some_direction h.direction_small h.not_deleted)
 
 true-is_edge : (e : DirectedEdge) → is_edge e ≡ true → IsEdge e
 true-is_edge e h =
@@ -140,7 +153,8 @@ pub record IsEdgeForm (c : Address) (d n x : ℕ) : Type 0 where
   pub fits : n + 2 ^ 59 + x * 2 ^ 56 % 2 ^ 64 < 2 ^ 64
   pub is : edge_number (directed_edge c d) ≡ n + 2 ^ 59 + x * 2 ^ 56 % 2 ^ 64
 
-sums_are : (n d : ℕ) → n / 2 ^ 56 ≡ 8 → d < 7 → n + 2 ^ 59 + d * 2 ^ 56 % 2 ^ 64 < 2 ^ 64 × n + 2 ^ 59 + d * 2 ^ 56 ≡ n + 2 ^ 59 + d * 2 ^ 56 % 2 ^ 64
+sums_are : (n d : ℕ) → n / 2 ^ 56 ≡ 8 → d < 7
+    → n + 2 ^ 59 + d * 2 ^ 56 % 2 ^ 64 < 2 ^ 64 × n + 2 ^ 59 + d * 2 ^ 56 ≡ n + 2 ^ 59 + d * 2 ^ 56 % 2 ^ 64
 sums_are n d h small = (omega (arith, h, small), omega (arith, h, small))
 
 pub edge_form : (c : Address) (d n x : ℕ) → IsCell c → d < 7 → n ≡ number_of c → x ≡ d → IsEdgeForm c d n x
@@ -166,7 +180,8 @@ pub record Stands (c : Address) (d m : ℕ) : Type 0 where
 pub number_read : (c : Address) (d m : ℕ) → Stands c d m → edge_number (directed_edge c d) ≡ m
 number_read c d m s = from_bits c d m (sym s.origin) s.mode (sym s.direction)
 
-pub only_read : (c : Address) (d m : ℕ) → IsCell c → Stands c d m → (IsEdge (directed_edge c d) → ⊥) → (e : DirectedEdge) → IsEdge e → edge_number e ≢ m
+pub only_read : (c : Address) (d m : ℕ) → IsCell c → Stands c d m → (IsEdge (directed_edge c d) → ⊥)
+    → (e : DirectedEdge) → IsEdge e → edge_number e ≢ m
 only_read c d m h s none e valid is =
     let b = bits_of e m valid is in
     let origin : e.origin ≡ c = same_from_number e.origin c valid.origin_cell h (sym b.origin ∙ sym s.origin) in
@@ -177,7 +192,8 @@ abbrev Made : Address → ℕ → Result DirectedEdge H3Error → Type 0
 Made c d r = IfOk r (λ e. (e ≡ directed_edge c d) × IsEdge e)
 
 -- a cell has no edge in a direction that is refused
-pub none_refused : (c : Address) (d : ℕ) (e : H3Error) → Some e ≡ direction_refusal c d → (e ≡ DirEdgeInvalid) × (IsEdge (directed_edge c d) → ⊥)
+pub none_refused : (c : Address) (d : ℕ) (e : H3Error) → Some e ≡ direction_refusal c d
+    → (e ≡ DirEdgeInvalid) × (IsEdge (directed_edge c d) → ⊥)
 none_refused c d e is = by_test (has_edge c d) refl
   where
     by_test : (b : Bool) → has_edge c d ≡ b → (e ≡ DirEdgeInvalid) × (IsEdge (directed_edge c d) → ⊥)
@@ -186,17 +202,21 @@ none_refused c d e is = by_test (has_edge c d) refl
         let other : Some e ≡ Some DirEdgeInvalid = rw test at is in
         (cc, λ h. false≢true (sym test ∙ has_edge-true c d h.some_direction h.direction_small h.not_deleted))
 
-pub made_read : (c : Address) (d m : ℕ) (r : Result DirectedEdge H3Error) → IsCell c → Stands c d m → Made c d r → result_err r ≡ direction_refusal c d → result_ok r ≡ edge_in m
+pub made_read : (c : Address) (d m : ℕ) (r : Result DirectedEdge H3Error) → IsCell c → Stands c d m → Made c d r
+    → result_err r ≡ direction_refusal c d → result_ok r ≡ edge_in m
 made_read c d m (Ok e) h s made refused =
     sym (edge_in-some e m made.1 (ap edge_number made.0 ∙ number_read c d m s))
 made_read c d m (Err e) h s made refused =
     sym (edge_in-none m (only_read c d m h s (none_refused c d e refused).1))
 
-pub made_accepted : (c : Address) (d m : ℕ) (r : Result DirectedEdge H3Error) → Stands c d m → Made c d r → IfOk r (λ e. IsEdge e × (edge_number e ≡ m))
+pub made_accepted : (c : Address) (d m : ℕ) (r : Result DirectedEdge H3Error) → Stands c d m → Made c d r
+    → IfOk r (λ e. IsEdge e × (edge_number e ≡ m))
 made_accepted c d m (Ok e) s made = (made.1, ap edge_number made.0 ∙ number_read c d m s)
 made_accepted c d m (Err e) s made = tt
 
-pub made_refused : (c : Address) (d m : ℕ) (r : Result DirectedEdge H3Error) → IsCell c → Stands c d m → result_err r ≡ direction_refusal c d → IfErr r (λ e. (e ≡ DirEdgeInvalid) × ((e : DirectedEdge) → IsEdge e → edge_number e ≢ m))
+pub made_refused : (c : Address) (d m : ℕ) (r : Result DirectedEdge H3Error) → IsCell c → Stands c d m
+    → result_err r ≡ direction_refusal c d
+    → IfErr r (λ e. (e ≡ DirEdgeInvalid) × ((e : DirectedEdge) → IsEdge e → edge_number e ≢ m))
 made_refused c d m (Ok e) h s refused = tt
 made_refused c d m (Err e) h s refused =
     let n = none_refused c d e refused in

@@ -24,7 +24,8 @@ edge_number_is : (e : DirectedEdge) → IsEdge e → edge_number e ≡ (16 + e.d
 unfolding edge_number
 edge_number_is e h = split (number_of e.origin) e.direction (mode-number_of e.origin h.origin_cell)
 
-rests_order : (a b : Address) → IsCell a → IsCell b → nat_cmp (rest_of a) (rest_of b) ≡ nat_cmp (number_of a) (number_of b)
+rests_order : (a b : Address) → IsCell a → IsCell b
+    → nat_cmp (rest_of a) (rest_of b) ≡ nat_cmp (number_of a) (number_of b)
 rests_order a b p q =
     shifted (2 ^ 59) (rest_of a) (rest_of b)
     ∙ ap (λ n. nat_cmp n (2 ^ 59 + rest_of b)) (whole (number_of a) (mode-number_of a p))
@@ -32,4 +33,14 @@ rests_order a b p q =
 
 pub edges_order : EdgeNumbersFollowFields
 edges_order a b p q =
-    rw (edge_number_is a p, edge_number_is b q, ← above_first (2 ^ 56) (16 + a.direction) (16 + b.direction) (rest_of a.origin) (rest_of b.origin) (small (number_of a.origin) (mode-number_of a.origin p.origin_cell)) (small (number_of b.origin) (mode-number_of b.origin q.origin_cell)), ← shifted 16 a.direction b.direction, rests_order a.origin b.origin p.origin_cell q.origin_cell, fields_order a.origin b.origin p.origin_cell q.origin_cell) refl
+    rw (
+      edge_number_is a p,
+      edge_number_is b q,
+      ← above_first (2 ^ 56) (16 + a.direction) (16 + b.direction) (rest_of a.origin) (rest_of b.origin)
+          (small (number_of a.origin) (mode-number_of a.origin p.origin_cell))
+          (small (number_of b.origin) (mode-number_of b.origin q.origin_cell)),
+      ← shifted 16 a.direction b.direction,
+      rests_order a.origin b.origin p.origin_cell q.origin_cell,
+      fields_order a.origin b.origin p.origin_cell q.origin_cell,
+    )
+    refl

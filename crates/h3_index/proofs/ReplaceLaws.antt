@@ -17,7 +17,8 @@ small_set [] i d all small = tt
 small_set (x ∷ ds) zero d all small = (small, all.1)
 small_set (x ∷ ds) (suc i) d all small = (all.0, small_set ds i d all.1 small)
 
-pub digit_cell : (c : Address) (r d : ℕ) → IsCell c → d < 7 → is_pentagon_base c.base ≡ false → IsCell (with_digit c r d)
+pub digit_cell : (c : Address) (r d : ℕ) → IsCell c → d < 7 → is_pentagon_base c.base ≡ false
+    → IsCell (with_digit c r d)
 digit_cell c r d h small hexagon = record {
   base_small = h.base_small;
   coarse = rw (length-set c.digits (r - 1) d) h.coarse;
@@ -27,25 +28,43 @@ digit_cell c r d h small hexagon = record {
 
 -- the digits before, the digit, and those after with the sevens
 value_set : (ds : List ℕ) (r d : ℕ) → 1 ≤ r → r ≤ length ds → length ds < 16
-    → number_from_digits 8 (padded (set ds (r - 1) d)) ≡ number_from_digits 8 (take (r - 1) ds) * 8 ^ (16 - r) + (d * 8 ^ (15 - r) + number_from_digits 8 (drop r ds ++ replicate (15 - length ds) 7))
+    → number_from_digits 8 (padded (set ds (r - 1) d))
+    ≡ number_from_digits 8 (take (r - 1) ds) * 8 ^ (16 - r)
+    + (d * 8 ^ (15 - r) + number_from_digits 8 (drop r ds ++ replicate (15 - length ds) 7))
 value_set ds r d some within coarse =
     let last = drop r ds ++ replicate (15 - length ds) 7 in
     let above : suc (r - 1) ≡ r = omega arith in
-    let size : length (drop r ds ++ replicate (15 - length ds) 7) ≡ 15 - r = omega (arith, length-append (drop r ds) (replicate (15 - length ds) 7), length-replicate {A = ℕ} (15 - length ds) 7, length-drop r ds) in
+    let size : length (drop r ds ++ replicate (15 - length ds) 7) ≡ 15 - r =
+    omega (
+      arith,
+      length-append (drop r ds) (replicate (15 - length ds) 7),
+      length-replicate {A = ℕ} (15 - length ds) 7,
+      length-drop r ds,
+    ) in
     let one : length (d ∷ drop r ds ++ replicate (15 - length ds) 7) ≡ 16 - r = omega (arith, size) in
-    let split : set ds (r - 1) d ≡ take (r - 1) ds ++ d ∷ drop r ds = rw above at (set_split ds (r - 1) d (omega arith)) in
+    let split : set ds (r - 1) d ≡ take (r - 1) ds ++ d ∷ drop r ds =
+    rw above at (set_split ds (r - 1) d (omega arith)) in
     let whole : padded (set ds (r - 1) d) ≡ take (r - 1) ds ++ (d ∷ drop r ds ++ replicate (15 - length ds) 7) =
-    ap (λ n. set ds (r - 1) d ++ replicate (15 - n) 7) (length-set ds (r - 1) d) ∙ ap (λ l. l ++ replicate (15 - length ds) 7) split ∙ append_assoc (take (r - 1) ds) (d ∷ drop r ds) (replicate (15 - length ds) 7) in
+    ap (λ n. set ds (r - 1) d ++ replicate (15 - n) 7) (length-set ds (r - 1) d)
+    ∙ ap (λ l. l ++ replicate (15 - length ds) 7) split
+    ∙ append_assoc (take (r - 1) ds) (d ∷ drop r ds) (replicate (15 - length ds) 7) in
     ap (λ l. number_from_digits 8 l) whole
     ∙ number_append (take (r - 1) ds) (d ∷ drop r ds ++ replicate (15 - length ds) 7)
-    ∙ ap (λ n. number_from_digits 8 (take (r - 1) ds) * 8 ^ n + number_from_digits 8 (d ∷ drop r ds ++ replicate (15 - length ds) 7)) one
-    ∙ ap (λ n. number_from_digits 8 (take (r - 1) ds) * 8 ^ (16 - r) + n) (number_first d (drop r ds ++ replicate (15 - length ds) 7) ∙ ap (λ n. d * 8 ^ n + number_from_digits 8 (drop r ds ++ replicate (15 - length ds) 7)) size)
+    ∙ ap
+    (λ n.
+    number_from_digits 8 (take (r - 1) ds) * 8 ^ n
+    + number_from_digits 8 (d ∷ drop r ds ++ replicate (15 - length ds) 7))
+    one
+    ∙ ap (λ n. number_from_digits 8 (take (r - 1) ds) * 8 ^ (16 - r) + n) (number_first d
+    (drop r ds ++ replicate (15 - length ds) 7)
+    ∙ ap (λ n. d * 8 ^ n + number_from_digits 8 (drop r ds ++ replicate (15 - length ds) 7)) size)
 
 pub record IsDigitSum (c : Address) (r d x : ℕ) : Type 0 where
   pub within : x * 8 ^ (15 - r) ≤ number_of c
   pub is : number_of (with_digit c r d) + x * 8 ^ (15 - r) ≡ number_of c + d * 8 ^ (15 - r)
 
-digit_sum : (c : Address) (r d x : ℕ) → IsCell c → 1 ≤ r → r ≤ length c.digits → x ≡ get_or c.digits (r - 1) 7 → IsDigitSum c r d x
+digit_sum : (c : Address) (r d x : ℕ) → IsCell c → 1 ≤ r → r ≤ length c.digits → x ≡ get_or c.digits (r - 1) 7
+    → IsDigitSum c r d x
 unfolding number_of
 digit_sum c r d x h some most old =
     let new = value_set c.digits r d some most h.coarse in
@@ -64,7 +83,8 @@ pub record IsDigitForm (c : Address) (m r d x y : ℕ) : Type 0 where
   pub is : m - x * 2 ^ (45 - 3 * r) % 2 ^ 64 + y * 2 ^ (45 - 3 * r) % 2 ^ 64 ≡ number_of (with_digit c r d)
   pub valid : IsCell (with_digit c r d)
 
-pub digit_form : (c : Address) (m r d x y : ℕ) → IsCell c → m ≡ number_of c → 1 ≤ r → r ≤ length c.digits → d < 7 → is_pentagon_base c.base ≡ false → x ≡ get_or c.digits (r - 1) 7 → x < 2 ^ 15 → y ≡ d → IsDigitForm c m r d x y
+pub digit_form : (c : Address) (m r d x y : ℕ) → IsCell c → m ≡ number_of c → 1 ≤ r → r ≤ length c.digits → d < 7
+    → is_pentagon_base c.base ≡ false → x ≡ get_or c.digits (r - 1) 7 → x < 2 ^ 15 → y ≡ d → IsDigitForm c m r d x y
 digit_form c m r d x y h e some most small hexagon old low same =
     let v = digit_cell c r d h small hexagon in
     let s = digit_sum c r d x h some most old in
@@ -73,7 +93,8 @@ digit_form c m r d x y h e some most small hexagon old low same =
     let limit = number_small (with_digit c r d) v in
     let place : 45 - 3 * r ≡ 3 * (15 - r) = omega arith in
     let was : x * 2 ^ (45 - 3 * r) % 2 ^ 64 ≡ x * 8 ^ (15 - r) = rw place (shifted x (15 - r) low (omega arith)) in
-    let new : y * 2 ^ (45 - 3 * r) % 2 ^ 64 ≡ d * 8 ^ (15 - r) = rw (place, same) (shifted d (15 - r) (omega arith) (omega arith)) in
+    let new : y * 2 ^ (45 - 3 * r) % 2 ^ 64 ≡ d * 8 ^ (15 - r) =
+    rw (place, same) (shifted d (15 - r) (omega arith) (omega arith)) in
     record {
       enough = rw (was, e) least;
       fits = rw (was, new, e) (omega (arith, least, sum, limit));
@@ -87,13 +108,20 @@ pub record IsBaseForm (c : Address) (m b x y : ℕ) : Type 0 where
   pub is : m - x * 2 ^ 45 % 2 ^ 64 + y * 2 ^ 45 % 2 ^ 64 ≡ number_of (with_base c b)
   pub valid : IsCell (with_base c b)
 
-base_sum : (c : Address) (b : ℕ) → c.base * 2 ^ 45 ≤ number_of c × number_of (with_base c b) + c.base * 2 ^ 45 ≡ number_of c + b * 2 ^ 45
+base_sum : (c : Address) (b : ℕ)
+    → c.base * 2 ^ 45 ≤ number_of c × number_of (with_base c b) + c.base * 2 ^ 45 ≡ number_of c + b * 2 ^ 45
 unfolding number_of
 base_sum c b = (omega arith, omega arith)
 
-pub base_form : (c : Address) (m b x y : ℕ) → IsCell c → m ≡ number_of c → b < 122 → is_pentagon_base b ≡ false → x ≡ c.base → y ≡ b → IsBaseForm c m b x y
+pub base_form : (c : Address) (m b x y : ℕ) → IsCell c → m ≡ number_of c → b < 122 → is_pentagon_base b ≡ false
+    → x ≡ c.base → y ≡ b → IsBaseForm c m b x y
 base_form c m b x y h e small hexagon old same =
-    let v : IsCell (with_base c b) = record { base_small = small; coarse = h.coarse; digits_small = h.digits_small; not_deleted = λ t _. false≢true (sym hexagon ∙ t) } in
+    let v : IsCell (with_base c b) = record {
+      base_small = small;
+      coarse = h.coarse;
+      digits_small = h.digits_small;
+      not_deleted = λ t _. false≢true (sym hexagon ∙ t);
+    } in
     let sum = base_sum c b in
     let least = sum.0 in
     let equal = sum.1 in

@@ -27,17 +27,20 @@ pub last_apart : (ds : List ℕ) → 0 < length ds → take (length ds - 1) ds +
 last_apart ds some =
     let next : suc (length ds - 1) ≡ length ds = omega (arith, some) in
     let end : drop (length ds - 1) ds ≡ get_or ds (length ds - 1) 7 ∷ [] =
-    drop-cons ds (length ds - 1) 7 (omega (arith, some)) ∙ ap (λ l. get_or ds (length ds - 1) 7 ∷ l) (drop_all (suc (length ds - 1)) ds (omega (arith, next))) in
+    drop-cons ds (length ds - 1) 7 (omega (arith, some))
+    ∙ ap (λ l. get_or ds (length ds - 1) 7 ∷ l) (drop_all (suc (length ds - 1)) ds (omega (arith, next))) in
     ap (λ l. take (length ds - 1) ds ++ l) (sym end) ∙ take-append-drop (length ds - 1) ds
 
 -- a digit 0 at the end makes no difference to whether a cell is a pentagon
-pub pentagon_above : (c : Address) → 0 < length c.digits → get_or c.digits (length c.digits - 1) 7 ≡ 0 → is_pentagon (ancestor_at c (length c.digits - 1)) ≡ is_pentagon c
+pub pentagon_above : (c : Address) → 0 < length c.digits → get_or c.digits (length c.digits - 1) 7 ≡ 0
+    → is_pentagon (ancestor_at c (length c.digits - 1)) ≡ is_pentagon c
 pentagon_above c some zero_last =
     let front = take (length c.digits - 1) c.digits in
     let whole : front ++ 0 ∷ [] ≡ c.digits = ap (λ d. front ++ d ∷ []) (sym zero_last) ∙ last_apart c.digits some in
     ap (λ n. is_pentagon_base c.base && n == 0) (sym (leading-zero front) ∙ ap leading whole)
 
-back_at : (c : Address) → 0 < length c.digits → along (ancestor_at c (length c.digits - 1)) (get_or c.digits (length c.digits - 1) 7 ∷ []) ≡ c
+back_at : (c : Address) → 0 < length c.digits
+    → along (ancestor_at c (length c.digits - 1)) (get_or c.digits (length c.digits - 1) 7 ∷ []) ≡ c
 back_at c some = ap {B = Address} (λ ds. record { base = c.base; digits = ds }) (last_apart c.digits some)
 
 -- what is known of a cell's number and unit
@@ -81,16 +84,22 @@ masked m k =
     let same : 8 ^ k ≡ p = sym (eights k) in
     let whole : m ≡ m / p * p + m % p = sym (shr_split m (3 * k)) in
     let mask : 7 * p ≡ 7 * p + 0 = omega arith in
-    let block : bit_and (m / p * p + m % p) (7 * p + 0) ≡ bit_and (m / p) 7 * p + bit_and (m % p) 0 = and_block (3 * k) (m / p) 7 (m % p) 0 (mod_below m p (pow_pos (3 * k))) (pow_pos (3 * k)) in
-    let none : bit_and (m / p) 7 * p + bit_and (m % p) 0 ≡ m / p % 8 * p = ap (λ n. bit_and (m / p) 7 * p + n) (and_zero_r (m % p)) ∙ (let end : bit_and (m / p) 7 * p + 0 ≡ bit_and (m / p) 7 * p = omega arith in end) ∙ ap (λ n. n * p) (and_mask (m / p) 3) in
+    let block : bit_and (m / p * p + m % p) (7 * p + 0) ≡ bit_and (m / p) 7 * p + bit_and (m % p) 0 =
+    and_block (3 * k) (m / p) 7 (m % p) 0 (mod_below m p (pow_pos (3 * k))) (pow_pos (3 * k)) in
+    let none : bit_and (m / p) 7 * p + bit_and (m % p) 0 ≡ m / p % 8 * p =
+    ap (λ n. bit_and (m / p) 7 * p + n) (and_zero_r (m % p))
+    ∙ (let end : bit_and (m / p) 7 * p + 0 ≡ bit_and (m / p) 7 * p = omega arith in end)
+    ∙ ap (λ n. n * p) (and_mask (m / p) 3) in
     rw same (ap (λ n. bit_and n (7 * p)) whole ∙ ap (bit_and (m / p * p + m % p)) mask ∙ block ∙ none)
 
 pub last_masked : (c : Address) (m u : ℕ) → IsAt c m u → 0 < length c.digits → bit_and m (7 * u) ≡ last_digit c * u
 last_masked c m u h some =
     let l = length c.digits in
     let shift : 45 - 3 * l ≡ 3 * (15 - l) = omega (arith, h.cell.coarse) in
-    let read : m / 2 ^ (45 - 3 * l) % 8 ≡ last_digit c = rw h.is at (digit-address_in m l h.code (omega (arith, some)) (omega (arith, h.cell.coarse))) in
-    let read-2 : m / 8 ^ (15 - l) % 8 ≡ last_digit c = ap (λ n. m / n % 8) (sym (eights (15 - l)) ∙ ap (λ n. 2 ^ n) (sym shift)) ∙ read in
+    let read : m / 2 ^ (45 - 3 * l) % 8 ≡ last_digit c =
+    rw h.is at (digit-address_in m l h.code (omega (arith, some)) (omega (arith, h.cell.coarse))) in
+    let read-2 : m / 8 ^ (15 - l) % 8 ≡ last_digit c =
+    ap (λ n. m / n % 8) (sym (eights (15 - l)) ∙ ap (λ n. 2 ^ n) (sym shift)) ∙ read in
     rw (← h.place) (masked m (15 - l) ∙ ap (λ n. n * 8 ^ (15 - l)) read-2)
 
 digit_small : (ds : List ℕ) (k : ℕ) → AllBelowBase 7 ds → k < length ds → get_or ds k 7 < 7
@@ -118,7 +127,9 @@ pub none_first : (c : Address) (m u : ℕ) → IsAt c m u → u ≡ 2 ^ 45 → h
 none_first c m u h first = by_size (length c.digits) refl
   where
     by_size : (l : ℕ) → length c.digits ≡ l → has_raised c ≡ false
-    by_size zero e = let seven : last_digit c ≡ 7 = last_none c.digits e in below_six (last_digit c) (not (is_pentagon c)) (omega (arith, seven))
+    by_size zero e =
+        let seven : last_digit c ≡ 7 = last_none c.digits e in
+        below_six (last_digit c) (not (is_pentagon c)) (omega (arith, seven))
     by_size (suc l) e = absurd (finer_unit (length c.digits) u h.place (omega (arith, e)) h.cell.coarse first)
 
 some_finer : (c : Address) (m u : ℕ) → IsAt c m u → u ≢ 2 ^ 45 → 0 < length c.digits
@@ -149,7 +160,8 @@ leading-last : (xs : List ℕ) (d : ℕ) → leading (xs ++ d ∷ []) ≡ 0 → 
 leading-last [] zero e = refl
 leading-last [] (suc d) e = let z : (suc d == 0) ≡ false = grind (arith, nat_tests) in rw z at e
 leading-last (zero ∷ xs) d e = leading-last xs d e
-leading-last (suc x ∷ xs) d e = let z : (suc x == 0) ≡ false = grind (arith, nat_tests) in absurd (omega (arith, rw z at e))
+leading-last (suc x ∷ xs) d e =
+    let z : (suc x == 0) ≡ false = grind (arith, nat_tests) in absurd (omega (arith, rw z at e))
 
 no_pentagon : (c : Address) → 0 < length c.digits → (last_digit c ≡ 0 → is_pentagon c ≡ false) → is_pentagon c ≡ false
 no_pentagon c some rule = by_test (is_pentagon c) refl
@@ -159,11 +171,14 @@ no_pentagon c some rule = by_test (is_pentagon c) refl
     by_test true e =
         let test = (and_parts (is_pentagon_base c.base) (leading c.digits == 0) e).1 in
         let none : leading c.digits ≡ 0 = grind (arith, nat_tests) in
-        let last : last_digit c ≡ 0 = leading-last (take (length c.digits - 1) c.digits) (last_digit c) (ap leading (last_apart c.digits some) ∙ none) in
+        let last : last_digit c ≡ 0 =
+        leading-last (take (length c.digits - 1) c.digits) (last_digit c)
+        (ap leading (last_apart c.digits some) ∙ none) in
         let no : is_pentagon c ≡ false = rule last in
         sym e ∙ no
 
-pub raised_at : (c : Address) (m u : ℕ) → IsAt c m u → u ≢ 2 ^ 45 → bit_and m (7 * u) ≢ 6 * u → (bit_and m (7 * u) ≡ 0 → is_pentagon c ≡ false) → IsRaised c m u
+pub raised_at : (c : Address) (m u : ℕ) → IsAt c m u → u ≢ 2 ^ 45 → bit_and m (7 * u) ≢ 6 * u
+    → (bit_and m (7 * u) ≡ 0 → is_pentagon c ≡ false) → IsRaised c m u
 raised_at c m u h other not_six rule =
     let some = some_finer c m u h other in
     let d = last_digit c in
@@ -183,12 +198,17 @@ raised_at c m u h other not_six rule =
     cc (hexagon, yes)) in
     let next : IsCell (child above (d + 1)) = child_cell above (d + 1) up coarse (omega (arith, less)) never in
     let here : IsCell (along above (d ∷ [])) = rw (back_at c some) h.cell in
-    let low : number_of above + 2 ^ 52 ≡ number_of c + (7 - d) * 8 ^ (14 - length above.digits) = rw (back_at c some) at (number_child above d up here (omega (arith, less))) in
-    let high : number_of above + 2 ^ 52 ≡ number_of (child above (d + 1)) + (7 - (d + 1)) * 8 ^ (14 - length above.digits) = number_child above (d + 1) up next (omega (arith, less)) in
+    let low : number_of above + 2 ^ 52 ≡ number_of c + (7 - d) * 8 ^ (14 - length above.digits) =
+    rw (back_at c some) at (number_child above d up here (omega (arith, less))) in
+    let high : number_of above + 2 ^ 52
+    ≡ number_of (child above (d + 1)) + (7 - (d + 1)) * 8 ^ (14 - length above.digits) =
+    number_child above (d + 1) up next (omega (arith, less)) in
     let left : 14 - length above.digits ≡ 15 - length c.digits = omega (arith, size, some) in
     let last_digit_step : 8 ^ (14 - length above.digits) ≡ u = ap (λ n. 8 ^ n) left ∙ h.place in
-    let apart : (7 - d) * u ≡ (7 - (d + 1)) * u + u = (let parts : 7 - d ≡ 7 - (d + 1) + 1 = omega (arith, less) in rw parts (grind arith)) in
-    let grown : m + u ≡ number_of (child above (d + 1)) = omega (arith, h.number, rw last_digit_step at low, rw last_digit_step at high, apart) in
+    let apart : (7 - d) * u ≡ (7 - (d + 1)) * u + u =
+    (let parts : 7 - d ≡ 7 - (d + 1) + 1 = omega (arith, less) in rw parts (grind arith)) in
+    let grown : m + u ≡ number_of (child above (d + 1)) =
+    omega (arith, h.number, rw last_digit_step at low, rw last_digit_step at high, apart) in
     let same : address_in (m + u) ≡ child above (d + 1) = made_is (m + u) (child above (d + 1)) next grown in
     let test : nat_lt d 6 ≡ true = grind (arith, nat_tests) in
     record {

@@ -52,7 +52,8 @@ pub few_steps : (p : Bool) (d : ℕ) → length (steps_below p d) ≤ d
 few_steps p zero = omega arith
 few_steps p (suc d) = one_more (p && d == 1) (few_steps p d)
   where
-    one_more : (b : Bool) → length (steps_below p d) ≤ d → length (steps_below p d ++ (if b then [] else d ∷ [])) ≤ suc d
+    one_more : (b : Bool) → length (steps_below p d) ≤ d
+        → length (steps_below p d ++ (if b then [] else d ∷ [])) ≤ suc d
     one_more true h = omega (arith, h, length-append {A = ℕ} (steps_below p d) [])
     one_more false h = omega (arith, h, length-append (steps_below p d) (d ∷ []))
 
@@ -60,16 +61,21 @@ few_steps p (suc d) = one_more (p && d == 1) (few_steps p d)
 
 -- the digits of a child up to its own, and before them what all cells of its base cell and resolution share
 abbrev digits_down : Address → ℕ → ℕ
-digits_down p d = ((2 ^ 14 + (length p.digits + 1) * 2 ^ 7 + p.base) * 8 ^ length p.digits + number_from_digits 8 p.digits) * 8 + d
+digits_down p d =
+    ((2 ^ 14 + (length p.digits + 1) * 2 ^ 7 + p.base) * 8 ^ length p.digits + number_from_digits 8 p.digits) * 8 + d
 
-next_child : (p : Address) (d : ℕ) → IsCell (child p d) → number_of (child p d) + 1 ≡ (digits_down p d + 1) * 8 ^ (14 - length p.digits)
+next_child : (p : Address) (d : ℕ) → IsCell (child p d)
+    → number_of (child p d) + 1 ≡ (digits_down p d + 1) * 8 ^ (14 - length p.digits)
 next_child p d h =
     let k = length p.digits in
     let size : length (p.digits ++ d ∷ []) ≡ k + 1 = length-append p.digits (d ∷ []) in
     let less : 15 - (k + 1) ≡ 14 - k = omega arith in
     let q = 8 ^ (14 - k) in
-    let power : 8 ^ (15 - k) ≡ q * 8 = (let e : 15 - k ≡ suc (14 - k) = omega (arith, size, h.coarse) in ap (λ n. 8 ^ n) e) ∙ pow-suc 8 (14 - k) in
-    let whole : 2 ^ 45 ≡ 8 ^ k * (q * 8) = (let e : 15 ≡ k + (15 - k) = omega (arith, size, h.coarse) in ap (λ n. 8 ^ n) e) ∙ pow-add 8 k (15 - k) ∙ ap (λ n. 8 ^ k * n) power in
+    let power : 8 ^ (15 - k) ≡ q * 8 =
+    (let e : 15 - k ≡ suc (14 - k) = omega (arith, size, h.coarse) in ap (λ n. 8 ^ n) e) ∙ pow-suc 8 (14 - k) in
+    let whole : 2 ^ 45 ≡ 8 ^ k * (q * 8) =
+    (let e : 15 ≡ k + (15 - k) = omega (arith, size, h.coarse) in
+    ap (λ n. 8 ^ n) e) ∙ pow-add 8 k (15 - k) ∙ ap (λ n. 8 ^ k * n) power in
     let v = number_from_digits 8 p.digits in
     let a = 2 ^ 14 + (k + 1) * 2 ^ 7 + p.base in
     let next : number_of (child p d) + 1 ≡ (2 ^ 14 + (k + 1) * 2 ^ 7 + p.base) * 2 ^ 45 + (v * 8 + d + 1) * q =
@@ -80,15 +86,19 @@ next_child p d h =
     spread a r v q d = grind arith
 
 -- the number of a child without its own digit and those after it
-above_child : (p : Address) (d : ℕ) → IsCell (child p d) → d < 7 → number_of (child p d) / 8 ^ (15 - length p.digits) ≡ (2 ^ 14 + (length p.digits + 1) * 2 ^ 7 + p.base) * 8 ^ length p.digits + number_from_digits 8 p.digits
+above_child : (p : Address) (d : ℕ) → IsCell (child p d) → d < 7
+    → number_of (child p d) / 8 ^ (15 - length p.digits)
+    ≡ (2 ^ 14 + (length p.digits + 1) * 2 ^ 7 + p.base) * 8 ^ length p.digits + number_from_digits 8 p.digits
 above_child p d h small =
     let k = length p.digits in
     let size : length (p.digits ++ d ∷ []) ≡ k + 1 = length-append p.digits (d ∷ []) in
     let q = 8 ^ (14 - k) in
     let some : 1 ≤ q = one-le-pow (14 - k) 8 (lit< tt) in
-    let power : 8 ^ (15 - k) ≡ q * 8 = (let e : 15 - k ≡ suc (14 - k) = omega (arith, size, h.coarse) in ap (λ n. 8 ^ n) e) ∙ pow-suc 8 (14 - k) in
+    let power : 8 ^ (15 - k) ≡ q * 8 =
+    (let e : 15 - k ≡ suc (14 - k) = omega (arith, size, h.coarse) in ap (λ n. 8 ^ n) e) ∙ pow-suc 8 (14 - k) in
     let most : d * q ≤ 6 * q = mul-le d q 6 q (omega (arith, small)) (omega arith) in
-    rw power (below ((2 ^ 14 + (k + 1) * 2 ^ 7 + p.base) * 8 ^ k + number_from_digits 8 p.digits) q (number_of (child p d)) d most some (next_child p d h))
+    rw power (below ((2 ^ 14 + (k + 1) * 2 ^ 7 + p.base) * 8 ^ k + number_from_digits 8 p.digits) q
+    (number_of (child p d)) d most some (next_child p d h))
   where
     below : (x q n d : ℕ) → d * q ≤ 6 * q → 1 ≤ q → n + 1 ≡ (x * 8 + d + 1) * q → n / (q * 8) ≡ x
     below x q n d most some e =
@@ -101,13 +111,17 @@ abbrev pub bits_after : Address → ℕ
 bits_after p = 3 * (14 - length p.digits)
 
 -- what is left of a child's number without these is a byte below what all children share
-byte_child : (p : Address) (d : ℕ) → IsCell (child p d) → number_of (child p d) / 16 ^ (bits_after p / 4) ≡ (digits_down p d + 1) * 2 ^ (bits_after p % 4) - 1
+byte_child : (p : Address) (d : ℕ) → IsCell (child p d)
+    → number_of (child p d) / 16 ^ (bits_after p / 4) ≡ (digits_down p d + 1) * 2 ^ (bits_after p % 4) - 1
 byte_child p d h =
     let b = bits_after p in
     let split : b ≡ b % 4 + 4 * (b / 4) = omega arith in
     let power : 8 ^ (14 - length p.digits) ≡ 2 ^ (b % 4) * 16 ^ (b / 4) =
-    sym (eights (14 - length p.digits)) ∙ ap (λ m. 2 ^ m) split ∙ pow-add 2 (b % 4) (4 * (b / 4)) ∙ ap (λ m. 2 ^ (b % 4) * m) (sixteens (b / 4)) in
-    divided (digits_down p d + 1) (2 ^ (b % 4)) (16 ^ (b / 4)) (number_of (child p d)) (omega arith) (one-le-pow (b % 4) 2 (lit< tt)) (one-le-pow (b / 4) 16 (lit< tt)) (next_child p d h ∙ ap (λ m. (digits_down p d + 1) * m) power)
+    sym (eights (14 - length p.digits)) ∙ ap (λ m. 2 ^ m) split ∙ pow-add 2 (b % 4) (4 * (b / 4))
+    ∙ ap (λ m. 2 ^ (b % 4) * m) (sixteens (b / 4)) in
+    divided (digits_down p d + 1) (2 ^ (b % 4)) (16 ^ (b / 4)) (number_of (child p d)) (omega arith)
+    (one-le-pow (b % 4) 2 (lit< tt)) (one-le-pow (b / 4) 16 (lit< tt))
+    (next_child p d h ∙ ap (λ m. (digits_down p d + 1) * m) power)
   where
     divided : (x s t n : ℕ) → 1 ≤ x → 1 ≤ s → 1 ≤ t → n + 1 ≡ x * (s * t) → n / t ≡ x * s - 1
     divided x s t n one two three e =
@@ -126,7 +140,8 @@ byte_child p d h =
         turn : (x s t : ℕ) → x * s * t ≡ x * (s * t)
         turn x s t = grind arith
 
-steps_up : (o x d : ℕ) → o < 4 → d < 7 → ((x * 8 + d + 1) * 2 ^ o - 1) % 256 ≡ ((x * 8 + 0 + 1) * 2 ^ o - 1) % 256 + d * 2 ^ o
+steps_up : (o x d : ℕ) → o < 4 → d < 7
+    → ((x * 8 + d + 1) * 2 ^ o - 1) % 256 ≡ ((x * 8 + 0 + 1) * 2 ^ o - 1) % 256 + d * 2 ^ o
 steps_up zero x d h small = omega (arith, small)
 steps_up (suc zero) x d h small = omega (arith, small)
 steps_up (suc (suc zero)) x d h small = omega (arith, small)
@@ -135,20 +150,27 @@ steps_up (suc (suc (suc (suc o)))) x d h small = absurd (omega (arith, h))
 
 -- this byte is that of the first child and as many steps as its digit says
 pub sibling_byte : (p : Address) (d : ℕ) → IsCell (child p 0) → IsCell (child p d) → d < 7
-    → number_of (child p d) / 16 ^ (bits_after p / 4) % 256 ≡ number_of (child p 0) / 16 ^ (bits_after p / 4) % 256 + d * 2 ^ (bits_after p % 4)
+    → number_of (child p d) / 16 ^ (bits_after p / 4) % 256
+    ≡ number_of (child p 0) / 16 ^ (bits_after p / 4) % 256 + d * 2 ^ (bits_after p % 4)
 sibling_byte p d first other small =
     let x = (2 ^ 14 + (length p.digits + 1) * 2 ^ 7 + p.base) * 8 ^ length p.digits + number_from_digits 8 p.digits in
-    ap (λ n. n % 256) (byte_child p d other) ∙ steps_up (bits_after p % 4) x d (mod_below (bits_after p) 4 (lit< tt)) small ∙ ap (λ n. n % 256 + d * 2 ^ (bits_after p % 4)) (sym (byte_child p 0 first))
+    ap (λ n. n % 256) (byte_child p d other)
+    ∙ steps_up (bits_after p % 4) x d (mod_below (bits_after p) 4 (lit< tt)) small
+    ∙ ap (λ n. n % 256 + d * 2 ^ (bits_after p % 4)) (sym (byte_child p 0 first))
 
 -- ---- their lines, one after another
 
-pub line_more : (line : Address → List ℕ) (p : Address) (front bytes : List ℕ) (ds : List ℕ) (d : ℕ) → bytes ≡ front ++ flat_map (λ e. line (child p e)) ds
+pub line_more : (line : Address → List ℕ) (p : Address) (front bytes : List ℕ) (ds : List ℕ) (d : ℕ)
+    → bytes ≡ front ++ flat_map (λ e. line (child p e)) ds
     → bytes ++ line (child p d) ≡ front ++ flat_map (λ e. line (child p e)) (ds ++ d ∷ [])
-line_more line p front bytes ds d is = ap (λ l. l ++ line (child p d)) is ∙ flat_map_more (λ e. line (child p e)) front ds d
+line_more line p front bytes ds d is =
+    ap (λ l. l ++ line (child p d)) is ∙ flat_map_more (λ e. line (child p e)) front ds d
 
-pub lines_whole : (line : Address → List ℕ) (p : Address) → flat_map (λ e. line (child p e)) (steps_below (is_pentagon p) 7) ≡ flat_map line (children p)
+pub lines_whole : (line : Address → List ℕ) (p : Address)
+    → flat_map (λ e. line (child p e)) (steps_below (is_pentagon p) 7) ≡ flat_map line (children p)
 lines_whole line p =
-    ap (flat_map (λ e. line (child p e))) (all_steps (is_pentagon p)) ∙ sym (flat_map-map line (child p) (steps (is_pentagon p))) ∙ ap (flat_map line) (sym (children_are p))
+    ap (flat_map (λ e. line (child p e))) (all_steps (is_pentagon p))
+    ∙ sym (flat_map-map line (child p) (steps (is_pentagon p))) ∙ ap (flat_map line) (sym (children_are p))
 
 count_children : (p : Address) (b : Bool) → length (map (child p) (steps b)) ≡ length (steps_below b 7)
 count_children p true = refl
@@ -167,8 +189,12 @@ six_children p = omega (arith, length-children p, six_steps (is_pentagon p))
 -- ---- as they are put
 
 -- the line of a child, from that of the first
-pub sibling_line : (p : Address) (d n byte step : ℕ) → IsCell (child p 0) → IsCell (child p d) → d < 7 → n ≡ bits_after p / 4 → byte ≡ number_of (child p 0) / 16 ^ n % 256 → step ≡ 2 ^ (bits_after p % 4)
-    → take (13 - n) (text_of (number_of (child p 0)) ++ 10 ∷ []) ++ (map digit_char (last_digits 16 2 (byte + d * step)) ++ drop 2 (drop (13 - n) (text_of (number_of (child p 0)) ++ 10 ∷ []))) ≡ text_of (number_of (child p d)) ++ 10 ∷ []
+pub sibling_line : (p : Address) (d n byte step : ℕ) → IsCell (child p 0) → IsCell (child p d) → d < 7
+    → n ≡ bits_after p / 4 → byte ≡ number_of (child p 0) / 16 ^ n % 256 → step ≡ 2 ^ (bits_after p % 4)
+    → take (13 - n) (text_of (number_of (child p 0)) ++ 10 ∷ [])
+    ++ (map digit_char (last_digits 16 2 (byte + d * step))
+    ++ drop 2 (drop (13 - n) (text_of (number_of (child p 0)) ++ 10 ∷ [])))
+    ≡ text_of (number_of (child p d)) ++ 10 ∷ []
 sibling_line p d n byte step first other small n_is byte_is step_is =
     let k = length p.digits in
     let line = text_of (number_of (child p 0)) ++ 10 ∷ [] in
@@ -178,15 +204,24 @@ sibling_line p d n byte step first other small n_is byte_is step_is =
     let fit : 4 * n ≤ 3 * (14 - k) = omega (arith, n_is) in
     let rest = 4 * (2 + n) - 3 * (15 - k) in
     let split : 4 * (2 + n) ≡ 3 * (15 - k) + rest = omega (arith, n_is, coarse) in
-    let power : 16 ^ (2 + n) ≡ 8 ^ (15 - k) * 2 ^ rest = sym (sixteens (2 + n)) ∙ ap (λ m. 2 ^ m) split ∙ pow-add 2 (3 * (15 - k)) rest ∙ ap (λ m. m * 2 ^ rest) (eights (15 - k)) in
-    let up : (v : ℕ) → v / 16 ^ (2 + n) ≡ v / 8 ^ (15 - k) / 2 ^ rest = λ v. ap (λ m. v / m) power ∙ sym (div-div-eq-div-mul v (8 ^ (15 - k)) (2 ^ rest)) in
+    let power : 16 ^ (2 + n) ≡ 8 ^ (15 - k) * 2 ^ rest =
+    sym (sixteens (2 + n)) ∙ ap (λ m. 2 ^ m) split ∙ pow-add 2 (3 * (15 - k)) rest
+    ∙ ap (λ m. m * 2 ^ rest) (eights (15 - k)) in
+    let up : (v : ℕ) → v / 16 ^ (2 + n) ≡ v / 8 ^ (15 - k) / 2 ^ rest =
+    λ v. ap (λ m. v / m) power ∙ sym (div-div-eq-div-mul v (8 ^ (15 - k)) (2 ^ rest)) in
     let high : number_of (child p d) / 16 ^ (2 + n) ≡ number_of (child p 0) / 16 ^ (2 + n) =
-    up (number_of (child p d)) ∙ ap (λ m. m / 2 ^ rest) (above_child p d other small ∙ sym (above_child p 0 first (omega arith))) ∙ sym (up (number_of (child p 0))) in
+    up (number_of (child p d))
+    ∙ ap (λ m. m / 2 ^ rest) (above_child p d other small ∙ sym (above_child p 0 first (omega arith)))
+    ∙ sym (up (number_of (child p 0))) in
     let ones : number_of (child p d) % 16 ^ n ≡ number_of (child p 0) % 16 ^ n =
-    ones_below (child p d) n other (omega (arith, fit, size_d)) ∙ sym (ones_below (child p 0) n first (omega (arith, fit, size_0))) in
+    ones_below (child p d) n other (omega (arith, fit, size_d))
+    ∙ sym (ones_below (child p 0) n first (omega (arith, fit, size_0))) in
     let byte_d : number_of (child p d) / 16 ^ n % 256 ≡ byte + d * step =
-    ap (λ m. number_of (child p d) / 16 ^ m % 256) n_is ∙ sibling_byte p d first other small ∙ ap (λ m. number_of (child p 0) / 16 ^ m % 256 + d * 2 ^ (bits_after p % 4)) (sym n_is) ∙ ap (λ m. m + d * 2 ^ (bits_after p % 4)) (sym byte_is) ∙ ap (λ m. byte + d * m) (sym step_is) in
-    let two : last_digits 16 2 (byte + d * step) ≡ last_digits 16 2 (number_of (child p d) / 16 ^ n) = ap (last_digits 16 2) (sym byte_d) ∙ low-last_digits 16 2 (number_of (child p d) / 16 ^ n) (lit< tt) in
+    ap (λ m. number_of (child p d) / 16 ^ m % 256) n_is ∙ sibling_byte p d first other small
+    ∙ ap (λ m. number_of (child p 0) / 16 ^ m % 256 + d * 2 ^ (bits_after p % 4)) (sym n_is)
+    ∙ ap (λ m. m + d * 2 ^ (bits_after p % 4)) (sym byte_is) ∙ ap (λ m. byte + d * m) (sym step_is) in
+    let two : last_digits 16 2 (byte + d * step) ≡ last_digits 16 2 (number_of (child p d) / 16 ^ n) =
+    ap (last_digits 16 2) (sym byte_d) ∙ low-last_digits 16 2 (number_of (child p d) / 16 ^ n) (lit< tt) in
     ap (λ l. take (13 - n) line ++ (map digit_char l ++ drop 2 (drop (13 - n) line))) two
     ∙ some_line_differs (child p 0) (child p d) 2 (13 - n) n first other (omega (arith, fit)) high ones
 
@@ -200,9 +235,12 @@ pub record AreParts (p : Address) (line : List ℕ) (n byte step : ℕ) : Type 0
   pub line_is : line ≡ text_of (number_of (child p 0)) ++ 10 ∷ []
 
 power_listed : (k : ℕ) → k < 4 → get_or (1 ∷ 2 ∷ 4 ∷ 8 ∷ []) k 0 ≡ 2 ^ k
-power_listed k less = eqb-true _ _ (agree_below_at (λ k. get_or (1 ∷ 2 ∷ 4 ∷ 8 ∷ []) k 0 == 2 ^ k) (λ _. true) 4 k refl less)
+power_listed k less =
+    eqb-true _ _ (agree_below_at (λ k. get_or (1 ∷ 2 ∷ 4 ∷ 8 ∷ []) k 0 == 2 ^ k) (λ _. true) 4 k refl less)
 
-pub parts_made : (p first : Address) (raw r n low : ℕ) (line : List ℕ) → IsCell p → length p.digits < 15 → r ≡ length p.digits → first ≡ child p 0 → IsCell first → raw ≡ number_of first → n ≡ 3 * (14 - r) / 4 → low ≡ 3 * (14 - r) % 4
+pub parts_made : (p first : Address) (raw r n low : ℕ) (line : List ℕ) → IsCell p → length p.digits < 15
+    → r ≡ length p.digits → first ≡ child p 0 → IsCell first → raw ≡ number_of first → n ≡ 3 * (14 - r) / 4
+    → low ≡ 3 * (14 - r) % 4
     → line ≡ map digit_char (last_digits 16 15 raw) ++ 10 ∷ []
     → AreParts p line n (bit_and (raw / 2 ^ (4 * n)) 255) (get_or (1 ∷ 2 ∷ 4 ∷ 8 ∷ []) low 0)
 parts_made p first raw r n low line h coarse r_is first_is cell raw_is after low_is made =
@@ -211,37 +249,52 @@ parts_made p first raw r n low line h coarse r_is first_is cell raw_is after low
       valid = h;
       coarse = coarse;
       after = after ∙ ap (λ k. 3 * (14 - k) / 4) r_is;
-      byte_is = and_mask (raw / 2 ^ (4 * n)) 8 ∙ ap (λ m. raw / m % 256) (sixteens n) ∙ ap (λ m. m / 16 ^ n % 256) number;
-      step_is = power_listed low (omega (arith, low_is)) ∙ ap (λ k. 2 ^ k) low_is ∙ ap (λ k. 2 ^ (3 * (14 - k) % 4)) r_is;
+      byte_is =
+          and_mask (raw / 2 ^ (4 * n)) 8 ∙ ap (λ m. raw / m % 256) (sixteens n) ∙ ap (λ m. m / 16 ^ n % 256) number;
+      step_is =
+          power_listed low (omega (arith, low_is)) ∙ ap (λ k. 2 ^ k) low_is ∙ ap (λ k. 2 ^ (3 * (14 - k) % 4)) r_is;
       line_is = made ∙ line_made first raw cell raw_is ∙ ap (λ c. text_of (number_of c) ++ 10 ∷ []) first_is;
     }
 
 first_cell : (p : Address) (line : List ℕ) (n byte step : ℕ) → AreParts p line n byte step → IsCell (child p 0)
 first_cell p line n byte step h = child_cell p 0 h.valid h.coarse (omega arith) (λ _ e. omega (arith, e))
 
-pub byte_small : (p : Address) (line : List ℕ) (n byte step d b : ℕ) → AreParts p line n byte step → d < 7 → (is_pentagon p ≡ true → d ≢ 1) → b ≡ byte + d * step → b < 256
+pub byte_small : (p : Address) (line : List ℕ) (n byte step d b : ℕ) → AreParts p line n byte step → d < 7
+    → (is_pentagon p ≡ true → d ≢ 1) → b ≡ byte + d * step → b < 256
 byte_small p line n byte step d b h small rule is =
     let other = child_cell p d h.valid h.coarse small rule in
     let same : number_of (child p d) / 16 ^ n % 256 ≡ byte + d * step =
-    ap (λ m. number_of (child p d) / 16 ^ m % 256) h.after ∙ sibling_byte p d (first_cell p line n byte step h) other small ∙ ap (λ m. number_of (child p 0) / 16 ^ m % 256 + d * 2 ^ (bits_after p % 4)) (sym h.after) ∙ ap (λ m. m + d * 2 ^ (bits_after p % 4)) (sym h.byte_is) ∙ ap (λ m. byte + d * m) (sym h.step_is) in
+    ap (λ m. number_of (child p d) / 16 ^ m % 256) h.after
+    ∙ sibling_byte p d (first_cell p line n byte step h) other small
+    ∙ ap (λ m. number_of (child p 0) / 16 ^ m % 256 + d * 2 ^ (bits_after p % 4)) (sym h.after)
+    ∙ ap (λ m. m + d * 2 ^ (bits_after p % 4)) (sym h.byte_is) ∙ ap (λ m. byte + d * m) (sym h.step_is) in
     let below = mod_below (number_of (child p d) / 16 ^ n) 256 (lit< tt) in
     omega (arith, is, same, below)
 
-pub child_line : (p : Address) (line : List ℕ) (n byte step d b : ℕ) → AreParts p line n byte step → d < 7 → (is_pentagon p ≡ true → d ≢ 1) → b ≡ byte + d * step
-    → take (13 - n) line ++ (map digit_char (last_digits 16 2 b) ++ drop 2 (drop (13 - n) line)) ≡ text_of (number_of (child p d)) ++ 10 ∷ []
+pub child_line : (p : Address) (line : List ℕ) (n byte step d b : ℕ) → AreParts p line n byte step → d < 7
+    → (is_pentagon p ≡ true → d ≢ 1) → b ≡ byte + d * step
+    → take (13 - n) line ++ (map digit_char (last_digits 16 2 b) ++ drop 2 (drop (13 - n) line))
+    ≡ text_of (number_of (child p d)) ++ 10 ∷ []
 child_line p line n byte step d b h small rule is =
     ap (λ m. take (13 - n) line ++ (map digit_char (last_digits 16 2 m) ++ drop 2 (drop (13 - n) line))) is
-    ∙ ap (λ l. take (13 - n) l ++ (map digit_char (last_digits 16 2 (byte + d * step)) ++ drop 2 (drop (13 - n) l))) h.line_is
-    ∙ sibling_line p d n byte step (first_cell p line n byte step h) (child_cell p d h.valid h.coarse small rule) small h.after h.byte_is h.step_is
+    ∙ ap (λ l. take (13 - n) l ++ (map digit_char (last_digits 16 2 (byte + d * step)) ++ drop 2 (drop (13 - n) l)))
+    h.line_is
+    ∙ sibling_line p d n byte step (first_cell p line n byte step h) (child_cell p d h.valid h.coarse small rule) small
+    h.after h.byte_is h.step_is
 
-pub first_put : (line : Address → List ℕ) (p : Address) (b : Bool) (front out : List ℕ) → b ≡ true → out ≡ front ++ line (child p 0)
+pub first_put : (line : Address → List ℕ) (p : Address) (b : Bool) (front out : List ℕ) → b ≡ true
+    → out ≡ front ++ line (child p 0)
     → out ≡ front ++ flat_map (λ e. line (child p e)) (steps_below b 2)
 first_put line p b front out is put = rw is (put ∙ ap (λ l. front ++ l) (sym (append-nil (line (child p 0)))))
 
-pub two_put : (line : Address → List ℕ) (p : Address) (b : Bool) (front middle out : List ℕ) → b ≡ false → middle ≡ front ++ line (child p 0) → out ≡ middle ++ line (child p 1)
+pub two_put : (line : Address → List ℕ) (p : Address) (b : Bool) (front middle out : List ℕ) → b ≡ false
+    → middle ≡ front ++ line (child p 0) → out ≡ middle ++ line (child p 1)
     → out ≡ front ++ flat_map (λ e. line (child p e)) (steps_below b 2)
 two_put line p b front middle out is first put =
-    rw is (put ∙ line_more line p front middle (0 ∷ []) 1 (first ∙ ap (λ l. front ++ l) (sym (append-nil (line (child p 0))))))
+    rw is
+    (put
+    ∙ line_more line p front middle (0 ∷ []) 1
+    (first ∙ ap (λ l. front ++ l) (sym (append-nil (line (child p 0))))))
 
 pub first_count : (b : Bool) → b ≡ true → length (steps_below b 2) ≡ 1
 first_count b is = rw is refl

@@ -26,7 +26,8 @@ pub record IsCellNumber (m : ℕ) : Type 0 where
 -- the test of `IsCell`
 abbrev pub is_cell : Address → Bool
 is_cell c =
-    nat_lt c.base 122 && nat_lt (resolution c) 16 && list_all (λ d. nat_lt d 7) c.digits && not (is_pentagon_base c.base && leading c.digits == 1)
+    nat_lt c.base 122 && nat_lt (resolution c) 16 && list_all (λ d. nat_lt d 7) c.digits
+    && not (is_pentagon_base c.base && leading c.digits == 1)
 
 -- cell_in m: the cell with this number, if there is one
 unfoldable pub cell_in : ℕ → Option Address

@@ -7,4 +7,5 @@ use Rattle.h3_index.specs.Cell.{leading}
 -- others are 7
 abbrev pub are_digits : Bool → ℕ → List ℕ → Bool
 are_digits deleted resolution ds =
-    list_all (λ d. nat_lt d 7) (take resolution ds) && list_all (λ d. d == 7) (drop resolution ds) && not (deleted && leading (take resolution ds) == 1)
+    list_all (λ d. nat_lt d 7) (take resolution ds) && list_all (λ d. d == 7) (drop resolution ds)
+    && not (deleted && leading (take resolution ds) == 1)

@@ -1,6 +1,7 @@
 -- The cells and edges that texts parse as.
 --
--- H3's `stringToH3` reads the index; `isValidCell` and `isValidDirectedEdge` say whether it is one of a cell or an edge.
+-- H3's `stringToH3` reads the index; `isValidCell` and `isValidDirectedEdge` say whether it is one of a cell or an
+-- edge.
 use Rattle.std.specs.Prelude.{ℕ, List, Option, None, Some, Result, Ok, Err}
 use Rattle.h3_index.specs.Cell.{Address}
 use Rattle.h3_index.specs.CellNumber.{cell_in}

@@ -19,12 +19,20 @@ NumbersAreRead = (c : Address) → IsCell c → cell_in (number_of c) ≡ Some c
 -- NumbersFollowFields: numbers order cells by resolution, base cell and digits
 abbrev pub NumbersFollowFields : Type 0
 NumbersFollowFields =
-    (a b : Address) → IsCell a → IsCell b → nat_cmp (number_of a) (number_of b) ≡ ordering_then (nat_cmp (resolution a) (resolution b)) (ordering_then (nat_cmp a.base b.base) (slice_cmp nat_cmp a.digits b.digits))
+    (a b : Address) → IsCell a → IsCell b
+    → nat_cmp (number_of a) (number_of b)
+    ≡ ordering_then (nat_cmp (resolution a) (resolution b))
+    (ordering_then (nat_cmp a.base b.base) (slice_cmp nat_cmp a.digits b.digits))
 
 -- EdgeNumbersFollowFields: numbers order edges by direction, and then as the cells that they leave
 abbrev pub EdgeNumbersFollowFields : Type 0
 EdgeNumbersFollowFields =
-    (a b : DirectedEdge) → IsEdge a → IsEdge b → nat_cmp (edge_number a) (edge_number b) ≡ ordering_then (nat_cmp a.direction b.direction) (ordering_then (nat_cmp (resolution a.origin) (resolution b.origin)) (ordering_then (nat_cmp a.origin.base b.origin.base) (slice_cmp nat_cmp a.origin.digits b.origin.digits)))
+    (a b : DirectedEdge) → IsEdge a → IsEdge b
+    → nat_cmp (edge_number a) (edge_number b)
+    ≡ ordering_then (nat_cmp a.direction b.direction)
+    (ordering_then (nat_cmp (resolution a.origin) (resolution b.origin))
+    (ordering_then (nat_cmp a.origin.base b.origin.base)
+    (slice_cmp nat_cmp a.origin.digits b.origin.digits)))
 
 -- CutsAreCells: a cell cut at a resolution up to its own is a cell
 abbrev pub CutsAreCells : Type 0
@@ -33,7 +41,8 @@ CutsAreCells = (c : Address) (r : ℕ) → IsCell c → r ≤ resolution c → I
 -- DescendantsAreListed: `descendants` holds the descendants and nothing else
 abbrev pub DescendantsAreListed : Type 0
 DescendantsAreListed =
-    (c : Address) (s : ℕ) → IsCell c → resolution c ≤ s → s ≤ 15 → (x : Address) → Contains (descendants c s) x ↔ IsDescendant c s x
+    (c : Address) (s : ℕ) → IsCell c → resolution c ≤ s → s ≤ 15 → (x : Address)
+    → Contains (descendants c s) x ↔ IsDescendant c s x
 
 -- DescendantsAscend: `descendants` ascends
 abbrev pub DescendantsAscend : Type 0

@@ -40,6 +40,7 @@ without_prefix bs = if starts_with nat_eq bs (codes "0x") || starts_with nat_eq 
 abbrev pub is_hexadecimal : List ℕ → Bool
 is_hexadecimal ds = nat_lt 0 (length ds) && nat_le (length ds) 16 && list_all (λ d. is_digit d 16) ds
 
+-- parsed_number ds: the number of 1 to 16 hexadecimal digits of either case; none for other bytes
 abbrev pub parsed_number : List ℕ → Option ℕ
 parsed_number ds = if is_hexadecimal ds then Some (digits_value 16 ds) else None
 
@@ -55,4 +56,6 @@ is_lower_digit b = (nat_le 48 b && nat_le b 57) || (nat_le 97 b && nat_le b 102)
 -- plain_index bytes: the number of 8 to 16 hexadecimal digits in lower case, with nothing beside them; none for other
 -- bytes
 abbrev pub plain_index : List ℕ → Option ℕ
-plain_index bs = if nat_le 8 (length bs) && nat_le (length bs) 16 && list_all is_lower_digit bs then Some (digits_value 16 bs) else None
+plain_index bs =
+    if nat_le 8 (length bs) && nat_le (length bs) 16 && list_all is_lower_digit bs then Some (digits_value 16 bs)
+    else None

@@ -17,23 +17,30 @@ carried c x d = (direction_of (left_of c (digit_or_zero x) d), carried_to c (row
 
 abbrev pub EachEntry : (Class → Option Direction → Direction → Type 0) → Type 0
 EachEntry P =
-    EachDirection (P Two None) × EachDirection (λ d. EachDirection (P Two (Some d))) × EachDirection (P Three None) × EachDirection (λ d. EachDirection (P Three (Some d)))
+    EachDirection (P Two None) × EachDirection (λ d. EachDirection (P Two (Some d))) × EachDirection (P Three None)
+    × EachDirection (λ d. EachDirection (P Three (Some d)))
 
-pub at_entry : (P : Class → Option Direction → Direction → Type 0) → EachEntry P → (c : Class) (x : Option Direction) (d : Direction) → P c x d
+pub at_entry : (P : Class → Option Direction → Direction → Type 0) → EachEntry P
+    → (c : Class) (x : Option Direction) (d : Direction) → P c x d
 at_entry P h Two None d = at_direction (P Two None) h.0 d
 at_entry P h Two (Some e) d = at_direction (P Two (Some e)) (at_direction (λ e. EachDirection (P Two (Some e))) h.1 e) d
 at_entry P h Three None d = at_direction (P Three None) h.2 d
-at_entry P h Three (Some e) d = at_direction (P Three (Some e)) (at_direction (λ e. EachDirection (P Three (Some e))) h.3 e) d
+at_entry P h Three (Some e) d =
+    at_direction (P Three (Some e)) (at_direction (λ e. EachDirection (P Three (Some e))) h.3 e) d
 
 digit_small : (x : Option Direction) → digit_or_zero x ≤ 6
 digit_small None = omega arith
-digit_small (Some d) = at_direction (λ d. digit_of d ≤ 6) (omega arith, omega arith, omega arith, omega arith, omega arith, omega arith) d
+digit_small (Some d) =
+    at_direction (λ d. digit_of d ≤ 6) (omega arith, omega arith, omega arith, omega arith, omega arith, omega arith) d
 
 digit_value-digit : (x : Option Direction) → digit_value (digit_or_zero x) ≡ value_of x
 digit_value-digit None = refl
-digit_value-digit (Some d) = at_direction (λ d. digit_value (digit_of d) ≡ unit_of d) (refl, refl, refl, refl, refl, refl) d
+digit_value-digit (Some d) =
+    at_direction (λ d. digit_value (digit_of d) ≡ unit_of d) (refl, refl, refl, refl, refl, refl) d
 
-pub carried_is : (c : Class) (x : Option Direction) (d : Direction) → sum_of (value_of x) (unit_of d) ≡ sum_of (product_of (multiplier c) (value_of (carried c x d).1)) (value_of (carried c x d).0)
+pub carried_is : (c : Class) (x : Option Direction) (d : Direction)
+    → sum_of (value_of x) (unit_of d)
+    ≡ sum_of (product_of (multiplier c) (value_of (carried c x d).1)) (value_of (carried c x d).0)
 carried_is c x d = rw (sym (digit_value-digit x)) (entry_sum c (digit_or_zero x) d (digit_small x)).carry
 
 -- what is carried may be nothing
@@ -45,7 +52,9 @@ nothing_carried : (c : Class) (v : Eisenstein) → sum_of v zero_point ≡ sum_o
 nothing_carried Three v = omega (arith, points)
 nothing_carried Two v = omega (arith, points)
 
-pub carried_into_is : (c : Class) (x p : Option Direction) → sum_of (value_of x) (value_of p) ≡ sum_of (product_of (multiplier c) (value_of (carried_into c x p).1)) (value_of (carried_into c x p).0)
+pub carried_into_is : (c : Class) (x p : Option Direction)
+    → sum_of (value_of x) (value_of p)
+    ≡ sum_of (product_of (multiplier c) (value_of (carried_into c x p).1)) (value_of (carried_into c x p).0)
 carried_into_is c x None = nothing_carried c (value_of x)
 carried_into_is c x (Some d) = carried_is c x d
 
@@ -59,12 +68,40 @@ ClosesTriangle c x d =
     (r3.0 ≡ r2.0) × Triangle r1.1 r3.1 r2.1
 
 closes_triangle : (c : Class) (x : Option Direction) (d : Direction) → ClosesTriangle c x d
-closes_triangle = at_entry ClosesTriangle (assumption (all_inside, z_across K, z_across J, z_across JK, z_across I, z_across IK, z_across IJ, x_across K, x_across J, x_across JK, x_across I, x_across IK, x_across IJ, y_across K, y_across J, y_across JK, y_across I, y_across IK, y_across IJ, all_across K, all_across J, all_across JK, all_across I, all_across IK, all_across IJ))
+closes_triangle =
+    at_entry ClosesTriangle (assumption (
+      all_inside,
+      z_across K,
+      z_across J,
+      z_across JK,
+      z_across I,
+      z_across IK,
+      z_across IJ,
+      x_across K,
+      x_across J,
+      x_across JK,
+      x_across I,
+      x_across IK,
+      x_across IJ,
+      y_across K,
+      y_across J,
+      y_across JK,
+      y_across I,
+      y_across IK,
+      y_across IJ,
+      all_across K,
+      all_across J,
+      all_across JK,
+      all_across I,
+      all_across IK,
+      all_across IJ,
+    ))
 
 abbrev IsUndone : Class → Option Direction → Direction → Type 0
 IsUndone c x d = carried c (carried c x d).0 (opposite d) ≡ (x, option_map opposite (carried c x d).1)
 
-carried-opposite : (c : Class) (x : Option Direction) (d : Direction) → carried c (carried c x d).0 (opposite d) ≡ (x, option_map opposite (carried c x d).1)
+carried-opposite : (c : Class) (x : Option Direction) (d : Direction)
+    → carried c (carried c x d).0 (opposite d) ≡ (x, option_map opposite (carried c x d).1)
 carried-opposite = at_entry IsUndone assumption
 
 z_outside : (u : Option Direction) → Triangle None u u
@@ -92,6 +129,8 @@ carries_triangle c x u t v (y_across e) =
     let back = carried-opposite c x e in
     record {
       same = ap (λ (r : Option Direction × Option Direction). r.0) back;
-      form = subst (λ (k : Option Direction). Triangle (carried c x e).1 k None) (sym (ap (λ (r : Option Direction × Option Direction). r.1) back)) (y_outside (carried c x e).1);
+      form =
+          subst (λ (k : Option Direction). Triangle (carried c x e).1 k None)
+          (sym (ap (λ (r : Option Direction × Option Direction). r.1) back)) (y_outside (carried c x e).1);
     }
 carries_triangle c x u t v (all_across e) = let h = closes_triangle c x e in record { same = h.0; form = h.1 }

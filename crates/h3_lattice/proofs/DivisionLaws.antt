@@ -96,23 +96,34 @@ remainder_of-with_remainder Two r h = grind arith
 
 -- ---- one digit and one quotient
 
-same_remainder : (c : Class) (z z' x x' : Eisenstein) (m m' : ℤ) (r r' : ℕ) → remainder_form c x ≡ pos 7 *ℤ m +ℤ pos r → r ≤ 6 → remainder_form c x' ≡ pos 7 *ℤ m' +ℤ pos r' → r' ≤ 6 → sum_of (product_of (multiplier c) z) x ≡ sum_of (product_of (multiplier c) z') x' → r ≡ r'
+same_remainder : (c : Class) (z z' x x' : Eisenstein) (m m' : ℤ) (r r' : ℕ) → remainder_form c x ≡ pos 7 *ℤ m +ℤ pos r
+    → r ≤ 6 → remainder_form c x' ≡ pos 7 *ℤ m' +ℤ pos r' → r' ≤ 6
+    → sum_of (product_of (multiplier c) z) x ≡ sum_of (product_of (multiplier c) z') x' → r ≡ r'
 same_remainder Three z z' x x' m m' r r' h l h' l' e = omega (arith, points)
 same_remainder Two z z' x x' m m' r r' h l h' l' e = omega (arith, points)
 
-same_quotient : (c : Class) (z z' x : Eisenstein) → sum_of (product_of (multiplier c) z) x ≡ sum_of (product_of (multiplier c) z') x → z ≡ z'
+same_quotient : (c : Class) (z z' x : Eisenstein)
+    → sum_of (product_of (multiplier c) z) x ≡ sum_of (product_of (multiplier c) z') x → z ≡ z'
 same_quotient Three z z' x e = omega (arith, points)
 same_quotient Two z z' x e = omega (arith, points)
 
-pub one_division : (c : Class) (z z' : Eisenstein) (x x' : Option Direction) → sum_of (product_of (multiplier c) z) (value_of x) ≡ sum_of (product_of (multiplier c) z') (value_of x') → (z ≡ z') × (x ≡ x')
+pub one_division : (c : Class) (z z' : Eisenstein) (x x' : Option Direction)
+    → sum_of (product_of (multiplier c) z) (value_of x) ≡ sum_of (product_of (multiplier c) z') (value_of x')
+    → (z ≡ z') × (x ≡ x')
 one_division c z z' x x' e =
     let r = remainder_is c x in
     let r' = remainder_is c x' in
-    let s = same_remainder c z z' (value_of x) (value_of x') r.sevens r'.sevens (remainder_of c x) (remainder_of c x') r.form r.small r'.form r'.small e in
-    let same : x ≡ x' = sym r.back ∙ ap (with_remainder c) s ∙ r'.back in
-    (same_quotient c z z' (value_of x') (sym (ap (λ y. sum_of (product_of (multiplier c) z) (value_of y)) same) ∙ e), same)
+    let s =
+    same_remainder c z z' (value_of x) (value_of x') r.sevens r'.sevens (remainder_of c x) (remainder_of c x')
+    r.form r.small r'.form r'.small e in
+    let same : x ≡ x' = sym r.back ∙ ap (with_remainder c) s ∙ r'.back in (
+      same_quotient c z z' (value_of x') (sym (ap (λ y. sum_of (product_of (multiplier c) z) (value_of y)) same) ∙ e),
+      same,
+    )
 
-pub one_digit : (c : Class) (z z' : Eisenstein) (d d' : ℕ) → d < 7 → d' < 7 → sum_of (product_of (multiplier c) z) (digit_value d) ≡ sum_of (product_of (multiplier c) z') (digit_value d') → (z ≡ z') × (d ≡ d')
+pub one_digit : (c : Class) (z z' : Eisenstein) (d d' : ℕ) → d < 7 → d' < 7
+    → sum_of (product_of (multiplier c) z) (digit_value d) ≡ sum_of (product_of (multiplier c) z') (digit_value d')
+    → (z ≡ z') × (d ≡ d')
 one_digit c z z' d d' h h' e =
     let one = one_division c z z' (direction_of d) (direction_of d') e in
     (one.0, sym (digit_or_zero-direction_of d h) ∙ ap digit_or_zero one.1 ∙ digit_or_zero-direction_of d' h')
@@ -132,19 +143,25 @@ abbrev quotient_at : Class → Eisenstein → ℤ → Eisenstein → Eisenstein
 quotient_at Three z m x = eisenstein (pos 3 *ℤ m -ℤ (z.b -ℤ x.b)) m
 quotient_at Two z m x = eisenstein (pos 2 *ℤ m -ℤ (z.b -ℤ x.b)) ((z.b -ℤ x.b) -ℤ m)
 
-divided : (c : Class) (z x : Eisenstein) (m : ℤ) → remainder_form c z ≡ pos 7 *ℤ m +ℤ remainder_form c x → z ≡ sum_of (product_of (multiplier c) (quotient_at c z m x)) x
+divided : (c : Class) (z x : Eisenstein) (m : ℤ) → remainder_form c z ≡ pos 7 *ℤ m +ℤ remainder_form c x
+    → z ≡ sum_of (product_of (multiplier c) (quotient_at c z m x)) x
 divided Three z x m h = omega (arith, points)
 divided Two z x m h = omega (arith, points)
 
 -- what a digit leaves that has the remainder of z
-leaves_digit : (c : Class) (z : Eisenstein) (r : ℕ) → r ≤ 6 → Leaves (remainder_form c z) r → LeavesDigit c z (digit_or_zero (with_remainder c r))
+leaves_digit : (c : Class) (z : Eisenstein) (r : ℕ) → r ≤ 6 → Leaves (remainder_form c z) r
+    → LeavesDigit c z (digit_or_zero (with_remainder c r))
 leaves_digit c z r h (m, e) =
     let x = with_remainder c r in
     let s = remainder_is c x in
     let f : remainder_of c x ≡ r = remainder_of-with_remainder c r h in
     let n = m -ℤ s.sevens in
-    let g : remainder_form c z ≡ pos 7 *ℤ n +ℤ remainder_form c (value_of x) = omega (arith, points, s.form) in
-    (quotient_at c z n (value_of x), divided c z (value_of x) n g ∙ ap (λ y. sum_of (product_of (multiplier c) (quotient_at c z n (value_of x))) (value_of y)) (sym (direction_of-digit_or_zero x)))
+    let g : remainder_form c z ≡ pos 7 *ℤ n +ℤ remainder_form c (value_of x) = omega (arith, points, s.form) in (
+      quotient_at c z n (value_of x),
+      divided c z (value_of x) n g
+          ∙ ap (λ y. sum_of (product_of (multiplier c) (quotient_at c z n (value_of x))) (value_of y))
+          (sym (direction_of-digit_or_zero x)),
+    )
 
 remainder_leaves : (t : ℤ) → Leaves t (nat_abs (int_rem_euclid t (pos 7)))
 remainder_leaves (pos n) = (pos (n / 7), omega (arith, points))
@@ -165,4 +182,9 @@ pub division : (c : Class) (z : Eisenstein) → Division c z
 division c z =
     let r = nat_abs (int_rem_euclid (remainder_form c z) (pos 7)) in
     let q = leaves_digit c z r (remainder_small (remainder_form c z)) (remainder_leaves (remainder_form c z)) in
-    record { digit = digit_or_zero (with_remainder c r); small = digit_or_zero-lt (with_remainder c r); quotient = q.0; is = q.1 }
+    record {
+      digit = digit_or_zero (with_remainder c r);
+      small = digit_or_zero-lt (with_remainder c r);
+      quotient = q.0;
+      is = q.1;
+    }

@@ -31,7 +31,9 @@ row_after c digit d = slice_index_or (slice_index_or CARRIES.carried (row_of c d
 
 abbrev IsEntry : Class → ℕ → Direction → Type 0
 IsEntry c digit d =
-    (nat_lt (left_of c digit d) 7 ≡ true) × IsCarry c digit d (value_of (carried_to c (row_after c digit d))) (left_of c digit d) × (row_after c digit d ≡ row_to c (carried_to c (row_after c digit d)))
+    (nat_lt (left_of c digit d) 7 ≡ true)
+    × IsCarry c digit d (value_of (carried_to c (row_after c digit d))) (left_of c digit d)
+    × (row_after c digit d ≡ row_to c (carried_to c (row_after c digit d)))
 
 -- by computation, row by row
 pub entry_is : (c : Class) (digit : ℕ) (d : Direction) → digit ≤ 6 → IsEntry c digit d
@@ -94,13 +96,15 @@ entry_is Two (suc (suc (suc (suc (suc (suc zero)))))) d h = at_direction (IsEntr
     row = assumption
 entry_is Two (suc (suc (suc (suc (suc (suc (suc n))))))) d h = absurd (omega arith)
 
-pub entry_sum : (c : Class) (digit : ℕ) (d : Direction) → digit ≤ 6 → IsSumIn c digit d (left_of c digit d) (row_after c digit d)
+pub entry_sum : (c : Class) (digit : ℕ) (d : Direction) → digit ≤ 6
+    → IsSumIn c digit d (left_of c digit d) (row_after c digit d)
 entry_sum c digit d h =
     let e = entry_is c digit d h in
     let small = ltb-true _ 7 e.0 in
     record { small = omega (arith, small); carry = e.1; is = e.2 }
 
-pub sum_only : (c : Class) (digit : ℕ) (d : Direction) (carried : Eisenstein) (left : ℕ) → left ≤ 6 → IsCarry c digit d carried left → IsOnlyCarry c digit d carried left
+pub sum_only : (c : Class) (digit : ℕ) (d : Direction) (carried : Eisenstein) (left : ℕ) → left ≤ 6
+    → IsCarry c digit d carried left → IsOnlyCarry c digit d carried left
 sum_only c digit d carried left h is other rest small e =
     one_digit c other carried rest left (omega (arith, small)) (omega (arith, h)) (sym e ∙ is)
 

@@ -15,11 +15,14 @@ use Rattle.h3_lattice.proofs.CarryLaws.{carried_into, carried_into_is}
 
 -- ---- a part that is added at the coarse end
 
-further : (c : Class) (x y v : Eisenstein) → sum_of (product_of (multiplier c) (sum_of x y)) v ≡ sum_of (product_of (multiplier c) x) (sum_of (product_of (multiplier c) y) v)
+further : (c : Class) (x y v : Eisenstein)
+    → sum_of (product_of (multiplier c) (sum_of x y)) v
+    ≡ sum_of (product_of (multiplier c) x) (sum_of (product_of (multiplier c) y) v)
 further Three x y v = omega (arith, points)
 further Two x y v = omega (arith, points)
 
-pub place_from-sum : (n : ℕ) (x y : Eisenstein) (ds : List ℕ) → place_from n (sum_of x y) ds ≡ sum_of (scaled n (length ds) x) (place_from n y ds)
+pub place_from-sum : (n : ℕ) (x y : Eisenstein) (ds : List ℕ)
+    → place_from n (sum_of x y) ds ≡ sum_of (scaled n (length ds) x) (place_from n y ds)
 place_from-sum n x y [] = refl
 place_from-sum n x y (d ∷ ds) =
     let c = class_at (n + 1) in
@@ -75,7 +78,8 @@ expanded n (suc k) z =
       is = ap (λ v. place_from (n + 1) v e.list) (sym d.is) ∙ e.is;
     }
 
-pub one_list : (n : ℕ) (u v : Eisenstein) (ds es : List ℕ) → length ds ≡ length es → AllBelowBase 7 ds → AllBelowBase 7 es → place_from n u ds ≡ place_from n v es → (u ≡ v) × (ds ≡ es)
+pub one_list : (n : ℕ) (u v : Eisenstein) (ds es : List ℕ) → length ds ≡ length es → AllBelowBase 7 ds
+    → AllBelowBase 7 es → place_from n u ds ≡ place_from n v es → (u ≡ v) × (ds ≡ es)
 one_list n u v [] [] l a b e = (e, refl)
 one_list n u v [] (d' ∷ es) l a b e = absurd (omega arith)
 one_list n u v (d ∷ ds) [] l a b e = absurd (omega arith)
@@ -92,7 +96,8 @@ pub expansion_along : (z u : Eisenstein) (r : ℕ) (ds : List ℕ) → IsExpansi
 expansion_along z u r ds h =
     place_from-unit u ds ∙ ap (λ n. sum_of (scaled 0 n u) (place ds)) h.long ∙ sym h.sum
 
-pub along_expansion : (z u : Eisenstein) (r : ℕ) (ds : List ℕ) → length ds ≡ r → AllBelowBase 7 ds → place_from 0 u ds ≡ z → IsExpansion z r u ds
+pub along_expansion : (z u : Eisenstein) (r : ℕ) (ds : List ℕ) → length ds ≡ r → AllBelowBase 7 ds
+    → place_from 0 u ds ≡ z → IsExpansion z r u ds
 along_expansion z u r ds l a e = record {
   long = l;
   digits = a;
@@ -106,13 +111,15 @@ expansions_are_unique z r =
       unit = e.unit;
       list = e.list;
       is = along_expansion z e.unit r e.list e.long e.small e.is;
-      only = λ u ds h. one_list 0 u e.unit ds e.list (h.long ∙ sym e.long) h.digits e.small (expansion_along z u r ds h ∙ sym e.is);
+      only = λ u ds h.
+          one_list 0 u e.unit ds e.list (h.long ∙ sym e.long) h.digits e.small (expansion_along z u r ds h ∙ sym e.is);
     }
 
 -- ---- a place and a unit
 
 -- a carry into the digit d of resolution n + 1
-pub one_step : (c : Class) (z x p k y : Eisenstein) → sum_of x p ≡ sum_of (product_of (multiplier c) k) y → sum_of (sum_of (product_of (multiplier c) z) x) p ≡ sum_of (product_of (multiplier c) (sum_of z k)) y
+pub one_step : (c : Class) (z x p k y : Eisenstein) → sum_of x p ≡ sum_of (product_of (multiplier c) k) y
+    → sum_of (sum_of (product_of (multiplier c) z) x) p ≡ sum_of (product_of (multiplier c) (sum_of z k)) y
 one_step Three z x p k y e = omega (arith, points)
 one_step Two z x p k y e = omega (arith, points)
 
@@ -122,7 +129,8 @@ place_along n z [] = z
 place_along n z (x ∷ xs) =
     place_along (n + 1) (sum_of (product_of (multiplier_at (n + 1)) z) (value_of x)) xs
 
-pub place_from-directions : (n : ℕ) (z : Eisenstein) (ds : List ℕ) → place_from n z ds ≡ place_along n z (map direction_of ds)
+pub place_from-directions : (n : ℕ) (z : Eisenstein) (ds : List ℕ)
+    → place_from n z ds ≡ place_along n z (map direction_of ds)
 place_from-directions n z [] = refl
 place_from-directions n z (d ∷ ds) =
     place_from-directions (n + 1) (sum_of (product_of (multiplier_at (n + 1)) z) (digit_value d)) ds
@@ -134,8 +142,10 @@ directions-digits (x ∷ xs) =
     let others = directions-digits xs in
     cc
 
-pub place_from-digits : (n : ℕ) (z : Eisenstein) (xs : List (Option Direction)) → place_from n z (map digit_or_zero xs) ≡ place_along n z xs
-place_from-digits n z xs = place_from-directions n z (map digit_or_zero xs) ∙ ap (place_along n z) (directions-digits xs)
+pub place_from-digits : (n : ℕ) (z : Eisenstein) (xs : List (Option Direction))
+    → place_from n z (map digit_or_zero xs) ≡ place_along n z xs
+place_from-digits n z xs =
+    place_from-directions n z (map digit_or_zero xs) ∙ ap (place_along n z) (directions-digits xs)
 
 pub all_small-digits : (xs : List (Option Direction)) → AllBelowBase 7 (map digit_or_zero xs)
 all_small-digits [] = tt
@@ -154,17 +164,22 @@ pub length-added : (n : ℕ) (xs : List (Option Direction)) (p : Option Directio
 length-added n [] p = refl
 length-added n (x ∷ xs) p = ap suc (length-added (n + 1) xs p)
 
-pub added_sum : (n : ℕ) (z : Eisenstein) (xs : List (Option Direction)) (p : Option Direction) → sum_of (place_along n z xs) (value_of p) ≡ place_along n (sum_of z (value_of (added n xs p).0)) (added n xs p).1
+pub added_sum : (n : ℕ) (z : Eisenstein) (xs : List (Option Direction)) (p : Option Direction)
+    → sum_of (place_along n z xs) (value_of p) ≡ place_along n (sum_of z (value_of (added n xs p).0)) (added n xs p).1
 added_sum n z [] p = refl
 added_sum n z (x ∷ xs) p =
     let c = class_at (n + 1) in
     let s = added (n + 1) xs p in
     let k = carried_into c x s.0 in
     added_sum (n + 1) (sum_of (product_of (multiplier c) z) (value_of x)) xs p
-    ∙ ap (λ v. place_along (n + 1) v s.1) (one_step c z (value_of x) (value_of s.0) (value_of k.1) (value_of k.0) (carried_into_is c x s.0))
+    ∙ ap (λ v. place_along (n + 1) v s.1)
+    (one_step c z (value_of x) (value_of s.0) (value_of k.1) (value_of k.0) (carried_into_is c x s.0))
 
 -- the sum of a place and a direction
-pub added_place : (ds : List ℕ) (d : Direction) → place_from 0 (value_of (added 0 (map direction_of ds) (Some d)).0) (map digit_or_zero (added 0 (map direction_of ds) (Some d)).1) ≡ sum_of (place ds) (unit_of d)
+pub added_place : (ds : List ℕ) (d : Direction)
+    → place_from 0 (value_of (added 0 (map direction_of ds) (Some d)).0)
+    (map digit_or_zero (added 0 (map direction_of ds) (Some d)).1)
+    ≡ sum_of (place ds) (unit_of d)
 added_place ds d =
     let s = added 0 (map direction_of ds) (Some d) in
     place_from-digits 0 (value_of s.0) s.1
@@ -172,14 +187,16 @@ added_place ds d =
     ∙ sym (added_sum 0 zero_point (map direction_of ds) (Some d))
     ∙ ap (λ z. sum_of z (unit_of d)) (sym (place_from-directions 0 zero_point ds))
 
-pub length-added_digits : (ds : List ℕ) (d : Direction) → length (map digit_or_zero (added 0 (map direction_of ds) (Some d)).1) ≡ length ds
+pub length-added_digits : (ds : List ℕ) (d : Direction)
+    → length (map digit_or_zero (added 0 (map direction_of ds) (Some d)).1) ≡ length ds
 length-added_digits ds d =
     let s = added 0 (map direction_of ds) (Some d) in
     length-map s.1 digit_or_zero ∙ length-added 0 (map direction_of ds) (Some d) ∙ length-map ds direction_of
 
 -- ---- one more digit
 
-pub place_from-append : (n : ℕ) (z : Eisenstein) (ds : List ℕ) (d r : ℕ) → r ≡ n + length ds + 1 → place_from n z (ds ++ d ∷ []) ≡ sum_of (product_of (multiplier_at r) (place_from n z ds)) (digit_value d)
+pub place_from-append : (n : ℕ) (z : Eisenstein) (ds : List ℕ) (d r : ℕ) → r ≡ n + length ds + 1
+    → place_from n z (ds ++ d ∷ []) ≡ sum_of (product_of (multiplier_at r) (place_from n z ds)) (digit_value d)
 place_from-append n z [] d r e =
     let same : n + 1 ≡ r = omega arith in
     ap (λ k. sum_of (product_of (multiplier_at k) z) (digit_value d)) same

@@ -21,10 +21,13 @@ use Rattle.h3_lattice.proofs.TurnLaws.{all_small-turned, map-turned-suc, once, o
 
 -- ---- one sum
 
-is_added : (ds : List ℕ) (d : Direction) → IsSum ds d (added 0 (map direction_of ds) (Some d)).0 (map digit_or_zero (added 0 (map direction_of ds) (Some d)).1)
+is_added : (ds : List ℕ) (d : Direction)
+    → IsSum ds d (added 0 (map direction_of ds) (Some d)).0
+    (map digit_or_zero (added 0 (map direction_of ds) (Some d)).1)
 is_added ds d =
     let s = added 0 (map direction_of ds) (Some d) in
-    along_expansion (sum_of (place ds) (unit_of d)) (value_of s.0) (length ds) (map digit_or_zero s.1) (length-added_digits ds d) (all_small-digits s.1) (added_place ds d)
+    along_expansion (sum_of (place ds) (unit_of d)) (value_of s.0) (length ds) (map digit_or_zero s.1)
+    (length-added_digits ds d) (all_small-digits s.1) (added_place ds d)
 
 pub sums_exist : SumsExist
 sums_exist ds d = record {
@@ -34,7 +37,8 @@ sums_exist ds d = record {
 }
 
 one_value : (u v : Option Direction) → value_of u ≡ value_of v → u ≡ v
-one_value u v e = (one_division Two zero_point zero_point u v (ap (sum_of (product_of (multiplier Two) zero_point)) e)).1
+one_value u v e =
+    (one_division Two zero_point zero_point u v (ap (sum_of (product_of (multiplier Two) zero_point)) e)).1
 
 pub sums_are_unique : SumsAreUnique
 sums_are_unique ds d u v es fs h k =
@@ -60,14 +64,16 @@ value_of-opposite : (u : Option Direction) → value_of (option_map opposite u) 
 value_of-opposite None = refl
 value_of-opposite (Some d) = unit_of-opposite d
 
-negated-multiplied : (c : Class) (z : Eisenstein) → product_of (multiplier c) (negated z) ≡ negated (product_of (multiplier c) z)
+negated-multiplied : (c : Class) (z : Eisenstein)
+    → product_of (multiplier c) (negated z) ≡ negated (product_of (multiplier c) z)
 negated-multiplied Three z = omega (arith, points)
 negated-multiplied Two z = omega (arith, points)
 
 scaled-negated : (n k : ℕ) (z : Eisenstein) → scaled n k (negated z) ≡ negated (scaled n k z)
 scaled-negated n zero z = refl
 scaled-negated n (suc k) z =
-    ap (scaled (n + 1) k) (negated-multiplied (class_at (n + 1)) z) ∙ scaled-negated (n + 1) k (product_of (multiplier_at (n + 1)) z)
+    ap (scaled (n + 1) k) (negated-multiplied (class_at (n + 1)) z)
+    ∙ scaled-negated (n + 1) k (product_of (multiplier_at (n + 1)) z)
 
 other_way : (p v s q : Eisenstein) → sum_of p v ≡ sum_of s q → sum_of q (negated v) ≡ sum_of (negated s) p
 other_way p v s q e = omega (arith, points)
@@ -79,7 +85,9 @@ sums_reverse ds d u es a h = record {
   sum =
       ap (sum_of (place es)) (unit_of-opposite d)
       ∙ other_way (place ds) (unit_of d) (scaled 0 (length ds) (value_of u)) (place es) h.sum
-      ∙ ap (λ s. sum_of s (place ds)) (sym (scaled-negated 0 (length ds) (value_of u)) ∙ ap (scaled 0 (length ds)) (sym (value_of-opposite u)) ∙ ap (λ n. scaled 0 n (value_of (option_map opposite u))) (sym h.long));
+      ∙ ap (λ s. sum_of s (place ds)) (sym (scaled-negated 0 (length ds) (value_of u))
+      ∙ ap (scaled 0 (length ds)) (sym (value_of-opposite u))
+      ∙ ap (λ n. scaled 0 n (value_of (option_map opposite u))) (sym h.long));
 }
 
 -- ---- its turns
@@ -103,12 +111,14 @@ once-multiplied Two z = omega (arith, points)
 scaled-once : (n k : ℕ) (z : Eisenstein) → scaled n k (once z) ≡ once (scaled n k z)
 scaled-once n zero z = refl
 scaled-once n (suc k) z =
-    ap (scaled (n + 1) k) (once-multiplied (class_at (n + 1)) z) ∙ scaled-once (n + 1) k (product_of (multiplier_at (n + 1)) z)
+    ap (scaled (n + 1) k) (once-multiplied (class_at (n + 1)) z)
+    ∙ scaled-once (n + 1) k (product_of (multiplier_at (n + 1)) z)
 
 once-sum : (x y : Eisenstein) → sum_of (once x) (once y) ≡ once (sum_of x y)
 once-sum x y = omega (arith, points)
 
-turned_sum : (ds : List ℕ) (d : Direction) (u : Option Direction) (es : List ℕ) → IsSum ds d u es → IsSum (map (digit_turned 1) ds) (turned 1 d) (option_map (turned 1) u) (map (digit_turned 1) es)
+turned_sum : (ds : List ℕ) (d : Direction) (u : Option Direction) (es : List ℕ) → IsSum ds d u es
+    → IsSum (map (digit_turned 1) ds) (turned 1 d) (option_map (turned 1) u) (map (digit_turned 1) es)
 turned_sum ds d u es h = record {
   long = length-map es (digit_turned 1) ∙ h.long ∙ sym (length-map ds (digit_turned 1));
   digits = all_small-turned 1 es;
@@ -119,10 +129,13 @@ turned_sum ds d u es h = record {
       ∙ ap once h.sum
       ∙ sym (once-sum (scaled 0 (length ds) (value_of u)) (place es))
       ∙ ap (sum_of (once (scaled 0 (length ds) (value_of u)))) (sym (place-turned 1 es))
-      ∙ ap (λ s. sum_of s (place (map (digit_turned 1) es))) (sym (scaled-once 0 (length ds) (value_of u)) ∙ ap (scaled 0 (length ds)) (sym (value_of-once u)) ∙ ap (λ n. scaled 0 n (value_of (option_map (turned 1) u))) (sym (length-map ds (digit_turned 1))));
+      ∙ ap (λ s. sum_of s (place (map (digit_turned 1) es))) (sym (scaled-once 0 (length ds) (value_of u))
+      ∙ ap (scaled 0 (length ds)) (sym (value_of-once u))
+      ∙ ap (λ n. scaled 0 n (value_of (option_map (turned 1) u))) (sym (length-map ds (digit_turned 1))));
 }
 
-no_turns_sum : (ds : List ℕ) (d : Direction) (u : Option Direction) (es : List ℕ) → IsSum ds d u es → IsSum (map (digit_turned 0) ds) d (option_map (turned 0) u) (map (digit_turned 0) es)
+no_turns_sum : (ds : List ℕ) (d : Direction) (u : Option Direction) (es : List ℕ) → IsSum ds d u es
+    → IsSum (map (digit_turned 0) ds) d (option_map (turned 0) u) (map (digit_turned 0) es)
 no_turns_sum ds d u es h = record {
   long = length-map es (digit_turned 0) ∙ h.long ∙ sym (length-map ds (digit_turned 0));
   digits = all_small-turned 0 es;
@@ -130,16 +143,29 @@ no_turns_sum ds d u es h = record {
       ap (λ p. sum_of p (unit_of d)) (place_from-no_turns 0 zero_point ds)
       ∙ h.sum
       ∙ ap (sum_of (scaled 0 (length ds) (value_of u))) (sym (place_from-no_turns 0 zero_point es))
-      ∙ ap (λ s. sum_of s (place (map (digit_turned 0) es))) (ap (λ w. scaled 0 (length ds) (value_of w)) (sym (option_turned-zero u)) ∙ ap (λ n. scaled 0 n (value_of (option_map (turned 0) u))) (sym (length-map ds (digit_turned 0))));
+      ∙ ap (λ s. sum_of s (place (map (digit_turned 0) es))) (ap (λ w. scaled 0 (length ds) (value_of w))
+      (sym (option_turned-zero u))
+      ∙ ap (λ n. scaled 0 n (value_of (option_map (turned 0) u))) (sym (length-map ds (digit_turned 0))));
 }
 
 pub sums_turn : SumsTurn
 sums_turn zero ds d u es h = no_turns_sum ds d u es h
 sums_turn (suc n) ds d u es h =
-    let once_more = turned_sum (map (digit_turned n) ds) (turned n d) (option_map (turned n) u) (map (digit_turned n) es) (sums_turn n ds d u es h) in
-    let same_out = subst (λ (w : Option Direction). IsSum (map (digit_turned 1) (map (digit_turned n) ds)) (turned (suc n) d) w (map (digit_turned 1) (map (digit_turned n) es))) (sym (option_turned-suc n u)) once_more in
-    let same_list = subst (λ (l : List ℕ). IsSum (map (digit_turned 1) (map (digit_turned n) ds)) (turned (suc n) d) (option_map (turned (suc n)) u) l) (sym (map-turned-suc n es)) same_out in
-    subst (λ (l : List ℕ). IsSum l (turned (suc n) d) (option_map (turned (suc n)) u) (map (digit_turned (suc n)) es)) (sym (map-turned-suc n ds)) same_list
+    let once_more =
+    turned_sum (map (digit_turned n) ds) (turned n d) (option_map (turned n) u) (map (digit_turned n) es)
+    (sums_turn n ds d u es h) in
+    let same_out =
+    subst
+    (λ (w : Option Direction).
+    IsSum (map (digit_turned 1) (map (digit_turned n) ds)) (turned (suc n) d) w
+    (map (digit_turned 1) (map (digit_turned n) es)))
+    (sym (option_turned-suc n u)) once_more in
+    let same_list = subst
+    (λ (l : List ℕ).
+    IsSum (map (digit_turned 1) (map (digit_turned n) ds)) (turned (suc n) d) (option_map (turned (suc n)) u) l)
+    (sym (map-turned-suc n es)) same_out in
+    subst (λ (l : List ℕ). IsSum l (turned (suc n) d) (option_map (turned (suc n)) u) (map (digit_turned (suc n)) es))
+    (sym (map-turned-suc n ds)) same_list
 
 -- ---- triangles
 
@@ -147,7 +173,8 @@ record IsTriangleOf (n : ℕ) (xs : List (Option Direction)) (u t v : Option Dir
   same : (added n (added n xs u).1 t).1 ≡ (added n xs v).1
   form : Triangle (added n xs u).0 (added n (added n xs u).1 t).0 (added n xs v).0
 
-list_triangle : (n : ℕ) (xs : List (Option Direction)) (u t v : Option Direction) → Triangle u t v → IsTriangleOf n xs u t v
+list_triangle : (n : ℕ) (xs : List (Option Direction)) (u t v : Option Direction) → Triangle u t v
+    → IsTriangleOf n xs u t v
 list_triangle n [] u t v h = record { same = refl; form = h }
 list_triangle n (x ∷ xs) u t v h =
     let c = class_at (n + 1) in
@@ -169,12 +196,18 @@ sums_close_triangles ds d u v es fs h k =
     let e = added 0 a.1 (Some (turned 2 d)) in
     let back : map direction_of es ≡ a.1 = ap (map direction_of) (sym one.1) ∙ directions-digits a.1 in
     let third : IsSum es (turned 2 d) e.0 (map digit_or_zero e.1) =
-    subst (λ (l : List (Option Direction)). IsSum es (turned 2 d) (added 0 l (Some (turned 2 d))).0 (map digit_or_zero (added 0 l (Some (turned 2 d))).1)) back (is_added es (turned 2 d)) in
+    subst
+    (λ (l : List (Option Direction)).
+    IsSum es (turned 2 d) (added 0 l (Some (turned 2 d))).0
+    (map digit_or_zero (added 0 l (Some (turned 2 d))).1))
+    back (is_added es (turned 2 d)) in
     let last : map digit_or_zero e.1 ≡ fs = ap (map digit_or_zero) t.same ∙ two.1 in
     record {
       out = e.0;
       third = subst (IsSum es (turned 2 d) e.0) last third;
-      form = subst (λ (w : Option Direction). Triangle u e.0 w) two.0 (subst (λ (w : Option Direction). Triangle w e.0 b.0) one.0 t.form);
+      form =
+          subst (λ (w : Option Direction). Triangle u e.0 w) two.0
+          (subst (λ (w : Option Direction). Triangle w e.0 b.0) one.0 t.form);
     }
 
 -- ---- a sum, digit by digit
@@ -189,11 +222,14 @@ small_take (suc n) [] all = tt
 small_take (suc n) (d ∷ ds) all = (all.0, small_take n ds all.1)
 
 -- where k is carried to the coarser digits, and u out of them, the finest digit goes after their sum
-pushed_sum : (ds es : List ℕ) (d : Direction) (k u : Option Direction) (x y n : ℕ) → n ≡ length ds + 1 → length es ≡ length ds → AllBelowBase 7 es → y < 7 → place_from 0 (value_of u) es ≡ sum_of (place ds) (value_of k) → IsCarry (class_at n) x d (value_of k) y → IsSum (ds ++ x ∷ []) d u (es ++ y ∷ [])
+pushed_sum : (ds es : List ℕ) (d : Direction) (k u : Option Direction) (x y n : ℕ) → n ≡ length ds + 1
+    → length es ≡ length ds → AllBelowBase 7 es → y < 7 → place_from 0 (value_of u) es ≡ sum_of (place ds) (value_of k)
+    → IsCarry (class_at n) x d (value_of k) y → IsSum (ds ++ x ∷ []) d u (es ++ y ∷ [])
 pushed_sum ds es d k u x y n at long all small h e =
     let first : n ≡ 0 + length ds + 1 = omega arith in
     let second : n ≡ 0 + length es + 1 = omega arith in
-    along_expansion (sum_of (place (ds ++ x ∷ [])) (unit_of d)) (value_of u) (length (ds ++ x ∷ [])) (es ++ y ∷ []) (omega (arith, length-append ds (x ∷ []), length-append es (y ∷ []))) (small_push es y all small)
+    along_expansion (sum_of (place (ds ++ x ∷ [])) (unit_of d)) (value_of u) (length (ds ++ x ∷ [])) (es ++ y ∷ [])
+    (omega (arith, length-append ds (x ∷ []), length-append es (y ∷ []))) (small_push es y all small)
     (place_from-append 0 (value_of u) es y n second
     ∙ ap (λ z. sum_of (product_of (multiplier_at n) z) (digit_value y)) h
     ∙ sym (one_step (class_at n) (place ds) (digit_value x) (unit_of d) (value_of k) (digit_value y) e)
@@ -215,12 +251,15 @@ begins ds direction = record {
 nothing-sum : (x : Eisenstein) → sum_of zero_point x ≡ sum_of x zero_point
 nothing-sum x = omega (arith, points)
 
-pub ends : (ds : List ℕ) (direction : Direction) (d : Direction) (ms : List ℕ) → IsUnderway ds direction 0 d ms → IsSum ds direction (Some d) ms
+pub ends : (ds : List ℕ) (direction : Direction) (d : Direction) (ms : List ℕ) → IsUnderway ds direction 0 d ms
+    → IsSum ds direction (Some d) ms
 ends ds direction d ms h =
     h.whole (Some d) [] (record { long = refl; digits = tt; sum = nothing-sum (unit_of d) })
 
 -- the r-th of the digits ms is x; it and a direction leave y, and k is carried
-module _ (ms : List ℕ) (d : Direction) (c : Class) (k : Option Direction) (r x y : ℕ) (small : AllBelowBase 7 ms) (most : r ≤ length ms) (some : 1 ≤ r) (class : c ≡ class_at r) (digit : x ≡ get_or ms (r - 1) 7) (left : y ≤ 6) (carry : IsCarry c x d (value_of k) y) where
+module _ (ms : List ℕ) (d : Direction) (c : Class) (k : Option Direction) (r x y : ℕ) (small : AllBelowBase 7 ms)
+    (most : r ≤ length ms) (some : 1 ≤ r) (class : c ≡ class_at r) (digit : x ≡ get_or ms (r - 1) 7) (left : y ≤ 6)
+    (carry : IsCarry c x d (value_of k) y) where
   above : suc (r - 1) ≡ r
   above = omega arith
 
@@ -229,37 +268,49 @@ module _ (ms : List ℕ) (d : Direction) (c : Class) (k : Option Direction) (r x
 
   finest : take r ms ≡ coarser ++ x ∷ []
   finest =
-      ap (λ n. take n ms) (sym above) ∙ take-suc ms (r - 1) 7 (omega (arith, above)) ∙ ap (λ v. coarser ++ v ∷ []) (sym digit)
+      ap (λ n. take n ms) (sym above) ∙ take-suc ms (r - 1) 7 (omega (arith, above))
+      ∙ ap (λ v. coarser ++ v ∷ []) (sym digit)
 
   long : r ≡ length coarser + 1
   long = omega (arith, length-take-le (r - 1) ms (omega arith), above)
 
-  sum_after : (es : List ℕ) (u : Option Direction) → length es ≡ length coarser → AllBelowBase 7 es → place_from 0 (value_of u) es ≡ sum_of (place coarser) (value_of k) → IsSum (take r ms) d u (es ++ y ∷ [])
+  sum_after : (es : List ℕ) (u : Option Direction) → length es ≡ length coarser → AllBelowBase 7 es
+      → place_from 0 (value_of u) es ≡ sum_of (place coarser) (value_of k) → IsSum (take r ms) d u (es ++ y ∷ [])
   sum_after es u same all h =
-      subst (λ l. IsSum l d u (es ++ y ∷ [])) (sym finest) (pushed_sum coarser es d k u x y r long same all (omega arith) h (subst (λ v. IsCarry v x d (value_of k) y) class carry))
+      subst (λ l. IsSum l d u (es ++ y ∷ [])) (sym finest) (pushed_sum coarser es d k u x y r long same all
+      (omega arith) h (subst (λ v. IsCarry v x d (value_of k) y) class carry))
 
   ends_here : k ≡ None → IsSum (take r ms) d None (coarser ++ y ∷ [])
   ends_here none =
-      sum_after coarser None refl (small_take (r - 1) ms small) (sum-zero (place coarser) ∙ ap (λ (o : Option Direction). sum_of (place coarser) (value_of o)) (sym none))
+      sum_after coarser None refl (small_take (r - 1) ms small)
+      (sum-zero (place coarser) ∙ ap (λ (o : Option Direction). sum_of (place coarser) (value_of o)) (sym none))
 
-  goes_on : (e : Direction) (u : Option Direction) (es : List ℕ) → k ≡ Some e → IsSum coarser e u es → IsSum (take r ms) d u (es ++ y ∷ [])
+  goes_on : (e : Direction) (u : Option Direction) (es : List ℕ) → k ≡ Some e → IsSum coarser e u es
+      → IsSum (take r ms) d u (es ++ y ∷ [])
   goes_on e u es some_e h =
-      sum_after es u h.long h.digits (expansion_along (sum_of (place coarser) (unit_of e)) (value_of u) (length coarser) es h ∙ ap (λ (o : Option Direction). sum_of (place coarser) (value_of o)) (sym some_e))
+      sum_after es u h.long h.digits (expansion_along (sum_of (place coarser) (unit_of e)) (value_of u) (length coarser)
+      es h
+      ∙ ap (λ (o : Option Direction). sum_of (place coarser) (value_of o)) (sym some_e))
 
   -- nothing is carried: the coarser digits stay
-  pub last_sum : (ds : List ℕ) (direction : Direction) → IsUnderway ds direction r d ms → k ≡ None → IsSum ds direction None (set ms (r - 1) y)
+  pub last_sum : (ds : List ℕ) (direction : Direction) → IsUnderway ds direction r d ms → k ≡ None
+      → IsSum ds direction None (set ms (r - 1) y)
   last_sum ds direction h none =
-      let split : set ms (r - 1) y ≡ coarser ++ y ∷ drop r ms = rw above at (set_split ms (r - 1) y (omega (arith, above))) in
+      let split : set ms (r - 1) y ≡ coarser ++ y ∷ drop r ms =
+      rw above at (set_split ms (r - 1) y (omega (arith, above))) in
       let list = append_assoc coarser (y ∷ []) (drop r ms) in
       subst (IsSum ds direction None) (list ∙ sym split) (h.whole None (coarser ++ y ∷ []) (ends_here none))
 
-  pub next_sum : (ds : List ℕ) (direction e : Direction) → IsUnderway ds direction r d ms → k ≡ Some e → IsUnderway ds direction (r - 1) e (set ms (r - 1) y)
+  pub next_sum : (ds : List ℕ) (direction e : Direction) → IsUnderway ds direction r d ms → k ≡ Some e
+      → IsUnderway ds direction (r - 1) e (set ms (r - 1) y)
   next_sum ds direction e h some_e = record {
     whole = λ u es g.
         let next : r - 1 + 1 ≡ r = omega arith in
         let same : take (r - 1) (set ms (r - 1) y) ≡ coarser = take-set ms (r - 1) y in
-        let tail : drop (r - 1) (set ms (r - 1) y) ≡ y ∷ drop r ms = rw next at (drop-set ms (r - 1) y (omega (arith, above))) in
+        let tail : drop (r - 1) (set ms (r - 1) y) ≡ y ∷ drop r ms =
+        rw next at (drop-set ms (r - 1) y (omega (arith, above))) in
         let list = append_assoc es (y ∷ []) (drop r ms) in
         let own : IsSum coarser e u es = rw same at g in
-        subst (IsSum ds direction u) (list ∙ ap (λ l. es ++ l) (sym tail)) (h.whole u (es ++ y ∷ []) (goes_on e u es some_e own));
+        subst (IsSum ds direction u) (list ∙ ap (λ l. es ++ l) (sym tail))
+        (h.whole u (es ++ y ∷ []) (goes_on e u es some_e own));
   }

@@ -18,13 +18,15 @@ use Rattle.h3_lattice.proofs.DivisionLaws.{digit_or_zero-direction_of, digit_or_
 times_zero : (p : Eisenstein) → zero_point ≡ product_of p zero_point
 times_zero p = omega (arith, points)
 
-value_of-turned : (n : ℕ) (x : Option Direction) → value_of (option_map (turned n) x) ≡ product_of (turning n) (value_of x)
+value_of-turned : (n : ℕ) (x : Option Direction)
+    → value_of (option_map (turned n) x) ≡ product_of (turning n) (value_of x)
 value_of-turned n None = times_zero (turning n)
 value_of-turned n (Some d) = unit_of-turned n d
 
 pub digit_value-turned : (n d : ℕ) → digit_value (digit_turned n d) ≡ product_of (turning n) (digit_value d)
 digit_value-turned n d =
-    ap value_of (direction_of-digit_or_zero (option_map (turned n) (direction_of d))) ∙ value_of-turned n (direction_of d)
+    ap value_of (direction_of-digit_or_zero (option_map (turned n) (direction_of d)))
+    ∙ value_of-turned n (direction_of d)
 
 pub are_turned : (n : ℕ) (ds : List ℕ) → AreTurned n ds (map (digit_turned n) ds)
 are_turned n [] = refl
@@ -42,27 +44,33 @@ all_small-turned n (d ∷ ds) = (digit_or_zero-lt (option_map (turned n) (direct
 abbrev pub once : Eisenstein → Eisenstein
 once z = product_of (eisenstein (pos 1) (pos 1)) z
 
-once_further : (c : Class) (z v : Eisenstein) → sum_of (product_of (multiplier c) (once z)) (once v) ≡ once (sum_of (product_of (multiplier c) z) v)
+once_further : (c : Class) (z v : Eisenstein)
+    → sum_of (product_of (multiplier c) (once z)) (once v) ≡ once (sum_of (product_of (multiplier c) z) v)
 once_further Three z v = omega (arith, points)
 once_further Two z v = omega (arith, points)
 
-place_from-turned_once : (n : ℕ) (z : Eisenstein) (ds : List ℕ) → place_from n (once z) (map (digit_turned 1) ds) ≡ once (place_from n z ds)
+place_from-turned_once : (n : ℕ) (z : Eisenstein) (ds : List ℕ)
+    → place_from n (once z) (map (digit_turned 1) ds) ≡ once (place_from n z ds)
 place_from-turned_once n z [] = refl
 place_from-turned_once n z (d ∷ ds) =
     let c = class_at (n + 1) in
-    ap (λ v. place_from (n + 1) (sum_of (product_of (multiplier c) (once z)) v) (map (digit_turned 1) ds)) (digit_value-turned 1 d)
+    ap (λ v. place_from (n + 1) (sum_of (product_of (multiplier c) (once z)) v) (map (digit_turned 1) ds))
+    (digit_value-turned 1 d)
     ∙ ap (λ v. place_from (n + 1) v (map (digit_turned 1) ds)) (once_further c z (digit_value d))
     ∙ place_from-turned_once (n + 1) (sum_of (product_of (multiplier c) z) (digit_value d)) ds
 
-pub option_turned-suc : (n : ℕ) (x : Option Direction) → option_map (turned (suc n)) x ≡ option_map (turned 1) (option_map (turned n) x)
+pub option_turned-suc : (n : ℕ) (x : Option Direction)
+    → option_map (turned (suc n)) x ≡ option_map (turned 1) (option_map (turned n) x)
 option_turned-suc n None = refl
 option_turned-suc n (Some d) = refl
 
 digit_turned-suc : (n d : ℕ) → digit_turned (suc n) d ≡ digit_turned 1 (digit_turned n d)
 digit_turned-suc n d =
-    ap digit_or_zero (option_turned-suc n (direction_of d) ∙ ap (option_map (turned 1)) (sym (direction_of-digit_or_zero (option_map (turned n) (direction_of d)))))
+    ap digit_or_zero (option_turned-suc n (direction_of d)
+    ∙ ap (option_map (turned 1)) (sym (direction_of-digit_or_zero (option_map (turned n) (direction_of d)))))
 
-pub map-turned-suc : (n : ℕ) (ds : List ℕ) → map (digit_turned (suc n)) ds ≡ map (digit_turned 1) (map (digit_turned n) ds)
+pub map-turned-suc : (n : ℕ) (ds : List ℕ)
+    → map (digit_turned (suc n)) ds ≡ map (digit_turned 1) (map (digit_turned n) ds)
 map-turned-suc n [] = refl
 map-turned-suc n (d ∷ ds) =
     let first = digit_turned-suc n d in
@@ -88,13 +96,16 @@ one_times z = omega (arith, points)
 
 digit_value-no_turns : (d : ℕ) → digit_value (digit_turned 0 d) ≡ digit_value d
 digit_value-no_turns d =
-    ap value_of (direction_of-digit_or_zero (option_map (turned 0) (direction_of d)) ∙ option_turned-zero (direction_of d))
+    ap value_of
+    (direction_of-digit_or_zero (option_map (turned 0) (direction_of d)) ∙ option_turned-zero (direction_of d))
 
-pub place_from-no_turns : (n : ℕ) (z : Eisenstein) (ds : List ℕ) → place_from n z (map (digit_turned 0) ds) ≡ place_from n z ds
+pub place_from-no_turns : (n : ℕ) (z : Eisenstein) (ds : List ℕ)
+    → place_from n z (map (digit_turned 0) ds) ≡ place_from n z ds
 place_from-no_turns n z [] = refl
 place_from-no_turns n z (d ∷ ds) =
     let c = class_at (n + 1) in
-    ap (λ v. place_from (n + 1) (sum_of (product_of (multiplier c) z) v) (map (digit_turned 0) ds)) (digit_value-no_turns d)
+    ap (λ v. place_from (n + 1) (sum_of (product_of (multiplier c) z) v) (map (digit_turned 0) ds))
+    (digit_value-no_turns d)
     ∙ place_from-no_turns (n + 1) (sum_of (product_of (multiplier c) z) (digit_value d)) ds
 
 -- the place of the turned digits
@@ -141,7 +152,8 @@ opposites_are_three_turns I = refl
 opposites_are_three_turns IK = refl
 opposites_are_three_turns IJ = refl
 
-option_turned-add : (m n : ℕ) (x : Option Direction) → option_map (turned m) (option_map (turned n) x) ≡ option_map (turned (m + n)) x
+option_turned-add : (m n : ℕ) (x : Option Direction)
+    → option_map (turned m) (option_map (turned n) x) ≡ option_map (turned (m + n)) x
 option_turned-add m n None = refl
 option_turned-add m n (Some d) = ap (λ (e : Direction). Some e) (turns_add m n d)
 
@@ -153,7 +165,8 @@ pub digit_turns_add : DigitTurnsAdd
 digit_turns_add m n [] = refl
 digit_turns_add m n (d ∷ ds) =
     let first : digit_turned m (digit_turned n d) ≡ digit_turned (m + n) d =
-    ap digit_or_zero (ap (option_map (turned m)) (direction_of-digit_or_zero (option_map (turned n) (direction_of d))) ∙ option_turned-add m n (direction_of d)) in
+    ap digit_or_zero (ap (option_map (turned m)) (direction_of-digit_or_zero (option_map (turned n) (direction_of d)))
+    ∙ option_turned-add m n (direction_of d)) in
     let others = digit_turns_add m n ds in
     cc
 
@@ -174,11 +187,16 @@ turned_entry n d = slice_index_or (slice_index_or TURNED n []) d 0
 
 row_is : (n d : ℕ) → n < 6 → d < 7 → turned_entry n d ≡ digit_turned n d
 row_is zero d l h = eqb-true _ _ (agree_below_at (λ d. turned_entry 0 d == digit_turned 0 d) (λ _. true) 7 d refl h)
-row_is (suc zero) d l h = eqb-true _ _ (agree_below_at (λ d. turned_entry 1 d == digit_turned 1 d) (λ _. true) 7 d refl h)
-row_is (suc (suc zero)) d l h = eqb-true _ _ (agree_below_at (λ d. turned_entry 2 d == digit_turned 2 d) (λ _. true) 7 d refl h)
-row_is (suc (suc (suc zero))) d l h = eqb-true _ _ (agree_below_at (λ d. turned_entry 3 d == digit_turned 3 d) (λ _. true) 7 d refl h)
-row_is (suc (suc (suc (suc zero)))) d l h = eqb-true _ _ (agree_below_at (λ d. turned_entry 4 d == digit_turned 4 d) (λ _. true) 7 d refl h)
-row_is (suc (suc (suc (suc (suc zero))))) d l h = eqb-true _ _ (agree_below_at (λ d. turned_entry 5 d == digit_turned 5 d) (λ _. true) 7 d refl h)
+row_is (suc zero) d l h =
+    eqb-true _ _ (agree_below_at (λ d. turned_entry 1 d == digit_turned 1 d) (λ _. true) 7 d refl h)
+row_is (suc (suc zero)) d l h =
+    eqb-true _ _ (agree_below_at (λ d. turned_entry 2 d == digit_turned 2 d) (λ _. true) 7 d refl h)
+row_is (suc (suc (suc zero))) d l h =
+    eqb-true _ _ (agree_below_at (λ d. turned_entry 3 d == digit_turned 3 d) (λ _. true) 7 d refl h)
+row_is (suc (suc (suc (suc zero)))) d l h =
+    eqb-true _ _ (agree_below_at (λ d. turned_entry 4 d == digit_turned 4 d) (λ _. true) 7 d refl h)
+row_is (suc (suc (suc (suc (suc zero))))) d l h =
+    eqb-true _ _ (agree_below_at (λ d. turned_entry 5 d == digit_turned 5 d) (λ _. true) 7 d refl h)
 row_is (suc (suc (suc (suc (suc (suc n)))))) d l h = absurd (omega arith)
 
 pub turned_is : (n d : ℕ) → d < 7 → slice_index_or (slice_index_or TURNED (n % 6) []) d 0 ≡ digit_turned n d

@@ -27,7 +27,8 @@ IsCarry class digit direction carried left =
 -- IsOnlyCarry: no other carried number and digit of 0 to 6 do so
 abbrev pub IsOnlyCarry : Class → ℕ → Direction → Eisenstein → ℕ → Type 0
 IsOnlyCarry class digit direction carried left =
-    (other : Eisenstein) (rest : ℕ) → rest ≤ 6 → IsCarry class digit direction other rest → (other ≡ carried) × (rest ≡ left)
+    (other : Eisenstein) (rest : ℕ) → rest ≤ 6 → IsCarry class digit direction other rest
+    → (other ≡ carried) × (rest ≡ left)
 
 -- ---- the rows of the carry tables, which contracts within the crate alone cite
 

@@ -19,7 +19,8 @@ w_squared = refl
 multipliers : product_of (multiplier Three) (multiplier Two) ≡ eisenstein (pos 7) (pos 0)
 multipliers = refl
 
-norms : map norm (multiplier Three ∷ multiplier Two ∷ unit_of K ∷ unit_of J ∷ one ∷ []) ≡ pos 7 ∷ pos 7 ∷ pos 1 ∷ pos 1 ∷ pos 1 ∷ []
+norms : map norm (multiplier Three ∷ multiplier Two ∷ unit_of K ∷ unit_of J ∷ one ∷ [])
+    ≡ pos 7 ∷ pos 7 ∷ pos 1 ∷ pos 1 ∷ pos 1 ∷ []
 norms = refl
 
 classes : map class_at (0 ∷ 1 ∷ 2 ∷ 15 ∷ []) ≡ Two ∷ Three ∷ Two ∷ Three ∷ []
@@ -30,11 +31,13 @@ classes = refl
 digits : map digit_of directions ≡ 1 ∷ 2 ∷ 3 ∷ 4 ∷ 5 ∷ 6 ∷ []
 digits = refl
 
-digits_back : map direction_of (0 ∷ 1 ∷ 2 ∷ 3 ∷ 4 ∷ 5 ∷ 6 ∷ 7 ∷ []) ≡ None ∷ Some K ∷ Some J ∷ Some JK ∷ Some I ∷ Some IK ∷ Some IJ ∷ None ∷ []
+digits_back : map direction_of (0 ∷ 1 ∷ 2 ∷ 3 ∷ 4 ∷ 5 ∷ 6 ∷ 7 ∷ [])
+    ≡ None ∷ Some K ∷ Some J ∷ Some JK ∷ Some I ∷ Some IK ∷ Some IJ ∷ None ∷ []
 digits_back = refl
 
 units : map unit_of directions
-    ≡ eisenstein (negsuc 0) (negsuc 0) ∷ eisenstein (pos 0) (pos 1) ∷ eisenstein (negsuc 0) (pos 0) ∷ eisenstein (pos 1) (pos 0) ∷ eisenstein (pos 0) (negsuc 0) ∷ eisenstein (pos 1) (pos 1) ∷ []
+    ≡ eisenstein (negsuc 0) (negsuc 0) ∷ eisenstein (pos 0) (pos 1) ∷ eisenstein (negsuc 0) (pos 0)
+    ∷ eisenstein (pos 1) (pos 0) ∷ eisenstein (pos 0) (negsuc 0) ∷ eisenstein (pos 1) (pos 1) ∷ []
 units = refl
 
 opposites : map opposite directions ≡ IJ ∷ IK ∷ I ∷ JK ∷ J ∷ K ∷ []
@@ -78,7 +81,8 @@ place_as_sum : sum_from 0 (0 ∷ 6 ∷ 4 ∷ 3 ∷ 4 ∷ []) ≡ place (0 ∷ 6 
 place_as_sum = refl
 
 -- 85283473fffffff by IJ lies in its own base cell: 85283447fffffff
-sum_inside : sum_of (place (0 ∷ 6 ∷ 4 ∷ 3 ∷ 4 ∷ [])) (unit_of IJ) ≡ sum_of (scaled 0 5 zero_point) (place (0 ∷ 6 ∷ 4 ∷ 2 ∷ 1 ∷ []))
+sum_inside : sum_of (place (0 ∷ 6 ∷ 4 ∷ 3 ∷ 4 ∷ [])) (unit_of IJ)
+    ≡ sum_of (scaled 0 5 zero_point) (place (0 ∷ 6 ∷ 4 ∷ 2 ∷ 1 ∷ []))
 sum_inside = refl
 
 -- 813d3ffffffffff by I lies across the border I of its base cell, at the digit 2

@@ -49,17 +49,20 @@ SumsExist = (ds : List ℕ) (d : Direction) → SomeSum ds d
 -- SumsAreUnique: they have one sum
 abbrev pub SumsAreUnique : Type 0
 SumsAreUnique =
-    (ds : List ℕ) (d : Direction) (u v : Option Direction) (es fs : List ℕ) → IsSum ds d u es → IsSum ds d v fs → (u ≡ v) × (es ≡ fs)
+    (ds : List ℕ) (d : Direction) (u v : Option Direction) (es fs : List ℕ) → IsSum ds d u es → IsSum ds d v fs
+    → (u ≡ v) × (es ≡ fs)
 
 -- SumsReverse: the opposite direction leads back
 abbrev pub SumsReverse : Type 0
 SumsReverse =
-    (ds : List ℕ) (d : Direction) (u : Option Direction) (es : List ℕ) → AllBelowBase 7 ds → IsSum ds d u es → IsSum es (opposite d) (option_map opposite u) ds
+    (ds : List ℕ) (d : Direction) (u : Option Direction) (es : List ℕ) → AllBelowBase 7 ds → IsSum ds d u es
+    → IsSum es (opposite d) (option_map opposite u) ds
 
 -- SumsTurn: the sum of turned ones is the turned sum
 abbrev pub SumsTurn : Type 0
 SumsTurn =
-    (n : ℕ) (ds : List ℕ) (d : Direction) (u : Option Direction) (es : List ℕ) → IsSum ds d u es → IsSum (map (digit_turned n) ds) (turned n d) (option_map (turned n) u) (map (digit_turned n) es)
+    (n : ℕ) (ds : List ℕ) (d : Direction) (u : Option Direction) (es : List ℕ) → IsSum ds d u es
+    → IsSum (map (digit_turned n) ds) (turned n d) (option_map (turned n) u) (map (digit_turned n) es)
 
 -- which sides of a triangle x, y, z lie across which borders of x's and y's base cells: from x to y, from y to z and
 -- from x to z
@@ -78,4 +81,5 @@ pub record IsTriangle (es : List ℕ) (d : Direction) (u v : Option Direction) (
 -- SumsCloseTriangles: the sums with a direction and with the next one are a step apart
 abbrev pub SumsCloseTriangles : Type 0
 SumsCloseTriangles =
-    (ds : List ℕ) (d : Direction) (u v : Option Direction) (es fs : List ℕ) → IsSum ds d u es → IsSum ds (turned_once d) v fs → IsTriangle es d u v fs
+    (ds : List ℕ) (d : Direction) (u v : Option Direction) (es fs : List ℕ) → IsSum ds d u es
+    → IsSum ds (turned_once d) v fs → IsTriangle es d u v fs

@@ -20,7 +20,8 @@ all_lines answer n one bytes =
     ap (λ k. lines_answer answer k (lines_in (rows_of false bytes))) one ∙ rows_answered answer bytes
 
 -- what takes the lines, and how it answers them
-module _ {S V : Type 0} (taken : S → Option (List ℕ)) (failed : S → Bool) (answer_of : V → Option ℕ → Answer) (number : V → ℕ) (held : V → List ℕ) (out : V → S)
+module _ {S V : Type 0} (taken : S → Option (List ℕ)) (failed : S → Bool) (answer_of : V → Option ℕ → Answer)
+    (number : V → ℕ) (held : V → List ℕ) (out : V → S)
     (takes : V → List Piece → V → Type 0) (refused : V → List Piece → V → RunError → Type 0) (settled : V → Type 0)
     (answers : (v w : V) (ls : List Piece) → takes v ls w
     → Answered taken failed (lines_from (answer_of v)) (number v) (number w) (held v) (held w) (out v) (out w) ls)

@@ -37,8 +37,11 @@ module _ {I : Type 0} (answer : List I → Answer) where
       grown = Appends-trans old (taken mid) (taken new) h.done p.part h.grown p.grown;
       so_far = λ more. (
           let bytes : (h.done ++ held) ++ text ≡ (h.done ++ p.part) ++ held' =
-          ap (λ l. l ++ text) (ap (λ l. h.done ++ l) p.split ∙ sym (append_assoc h.done p.part rest)) ∙ append_assoc (h.done ++ p.part) rest text ∙ ap (λ l. (h.done ++ p.part) ++ l) (sym is) in
-          ap answer (append_assoc items (item ∷ []) more) ∙ h.so_far (item ∷ more) ∙ ap (before (h.done ++ held)) (begins more) ∙ before_before (h.done ++ held) text (answer more) ∙ ap (λ l. before l (answer more)) bytes);
+          ap (λ l. l ++ text) (ap (λ l. h.done ++ l) p.split ∙ sym (append_assoc h.done p.part rest))
+          ∙ append_assoc (h.done ++ p.part) rest text ∙ ap (λ l. (h.done ++ p.part) ++ l) (sym is) in
+          ap answer (append_assoc items (item ∷ []) more) ∙ h.so_far (item ∷ more)
+          ∙ ap (before (h.done ++ held)) (begins more) ∙ before_before (h.done ++ held) text (answer more)
+          ∙ ap (λ l. before l (answer more)) bytes);
     }
 
     -- the answer to all items is written, where what is held back and the answer to the others are

@@ -228,7 +228,13 @@ module _ {V : Type 0} (state : V → LineState) (taken : V → List Address → 
       let (left, known', split) = left_of input.left input.left_after s.part list s.consumed known in (
         left,
         known',
-        record { before = s.part; last = []; split = split ∙ ap (λ l. l ++ left) (sym (append-nil s.part)); within = omega arith; good = no_fault_yet (state v) (state w) s.part s.ended s.last s.takes.0 s.takes.1 s.rows s.short },
+        record {
+          before = s.part;
+          last = [];
+          split = split ∙ ap (λ l. l ++ left) (sym (append-nil s.part));
+          within = omega arith;
+          good = no_fault_yet (state v) (state w) s.part s.ended s.last s.takes.0 s.takes.1 s.rows s.short;
+        },
       )
 
   -- and where a line or memory is refused
@@ -251,7 +257,8 @@ module _ {V : Type 0} (state : V → LineState) (taken : V → List Address → 
   -- a list that is refused before the reads end can be read, or is known to be faulty
   known_within : (v w : V) (e : RunError) (input : SourceUse) (reads page : ℕ) → (state v).1 ≡ 1
       → (s : StopsTaking false (rows_of false) 64 Takes Refuses Settled v w e input.left input.left_after reads page)
-      → (e ≡ Fault Read → ⊥) → (e ≡ Fault Memory → ⊥) → IsListWithinReads (state v).0 reads page (s.part ++ s.last ++ s.rest)
+      → (e ≡ Fault Read → ⊥) → (e ≡ Fault Memory → ⊥)
+      → IsListWithinReads (state v).0 reads page (s.part ++ s.last ++ s.rest)
   known_within v w e input reads page first s other memory = elim s.known [
     | inl within ↦ inl within
     | inr known ↦ inr (record {
@@ -273,7 +280,9 @@ module _ {V : Type 0} (state : V → LineState) (taken : V → List Address → 
     held = s.held;
     refused =
         subst
-        (λ r. RefusesByLine (state v).0 ((input.has_failed ≡ true) ⊎ (reads ≤ length (s.part ++ s.rest))) (s.part ++ s.rest) r)
+        (λ r.
+        RefusesByLine (state v).0 ((input.has_failed ≡ true) ⊎ (reads ≤ length (s.part ++ s.rest)))
+        (s.part ++ s.rest) r)
         (sym is) s.why;
     within = λ other memory. absurd (other is);
     sound = λ other. absurd (other is);

@@ -11,7 +11,8 @@ use Rattle.h3_lines.specs.Pieces.{Uncut}
 pub nothing_left : (rest : List ℕ) (b : Bool) → (length rest == 0) ≡ b → (n : ℕ)
     → parsed_number (without_prefix rest) ≡ Some n → b ≡ false
 nothing_left [] b is n parses = absurd (cc)
-nothing_left (x ∷ rest) b is n parses = let some : (length (x ∷ rest) == 0) ≡ false = grind (arith, nat_tests) in sym is ∙ some
+nothing_left (x ∷ rest) b is n parses =
+    let some : (length (x ∷ rest) == 0) ≡ false = grind (arith, nat_tests) in sym is ∙ some
 
 -- a line that parses as an index is not blank
 pub said_by_parsed : (says : Says) (line : List ℕ) (n : ℕ) → length line ≤ 64 → parsed_index line ≡ Some n
@@ -27,7 +28,9 @@ said_by_parsed says line n short parses =
 digit_byte : (radix b : ℕ) (t : Bool) (mark : ℕ) → (b == mark) ≡ t → is_digit b radix ≡ true
     → is_digit mark radix ≡ false → t ≡ false
 digit_byte radix b false mark is digit other = refl
-digit_byte radix b true mark is digit other = let never : is_digit mark radix ≡ true = ap (λ n. is_digit n radix) (sym (eqb-true b mark is)) ∙ digit in absurd (cc)
+digit_byte radix b true mark is digit other =
+    let never : is_digit mark radix ≡ true = ap (λ n. is_digit n radix) (sym (eqb-true b mark is)) ∙ digit in
+    absurd (cc)
 
 both : (p q : Bool) → (p && q) ≡ true → (p ≡ true) × (q ≡ true)
 both true q h = (refl, h)
@@ -44,7 +47,8 @@ digits_uncut radix feed quote q [] h = uncut_none 10 q false
 digits_uncut radix feed quote q (b ∷ bytes) h =
     let (digit, more) = both (is_digit b radix) (list_all (λ b. is_digit b radix) bytes) h in
     uncut_byte 10 q false b bytes (digit_byte radix b (b == 10) 10 refl digit feed)
-    (and_false q (b == 34) (digit_byte radix b (b == 34) 34 refl digit quote)) (digits_uncut radix feed quote q bytes more)
+    (and_false q (b == 34) (digit_byte radix b (b == 34) 34 refl digit quote))
+    (digits_uncut radix feed quote q bytes more)
 
 -- a carriage return after them
 pub returned_uncut : (radix : ℕ) → is_digit 10 radix ≡ false → is_digit 34 radix ≡ false → (q : Bool) (bytes : List ℕ)

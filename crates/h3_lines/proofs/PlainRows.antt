@@ -28,7 +28,8 @@ pub begins_plain : (bytes : List ℕ) (index : ℕ) → 15 < length bytes → ge
     → list_all (λ b. is_digit b 16) (take 15 bytes) ≡ true → parsed_index (take 15 bytes) ≡ Some index
     → BeginsPlain bytes index (take (length bytes - 16) (drop 16 bytes))
 begins_plain bytes index within feed digits parses =
-    begins_line bytes 15 index within (omega arith) feed (λ q. digits_uncut 16 refl refl q (take 15 bytes) digits) parses
+    begins_line bytes 15 index within (omega arith) feed (λ q. digits_uncut 16 refl refl q (take 15 bytes) digits)
+    parses
 
 -- digits and letters, and a line feed
 pub begins_letters : (bytes : List ℕ) (at index : ℕ) → at < length bytes → at ≤ 18 → get_or bytes at 0 ≡ 10
@@ -74,8 +75,11 @@ pub begins_then : (bytes indexes left after : List ℕ) (index : ℕ) → Begins
 begins_then bytes indexes left after index p q =
     let regroup : (rest : List ℕ) → left ++ rest ≡ q.line ++ 10 ∷ (after ++ rest) =
     λ rest. ap (λ l. l ++ rest) q.split ∙ append_assoc q.line (10 ∷ after) rest in
-    let one : (qs : Bool) (rest : List ℕ) → pieces_of qs (left ++ rest) ≡ (q.line, false) ∷ pieces_of qs (after ++ rest) =
-    λ qs rest. ap (pieces_of qs) (regroup rest) ∙ cut_at_mark 10 qs false q.line (after ++ rest) (q.uncut qs).uncut (q.uncut qs).inside_is refl in
+    let one : (qs : Bool) (rest : List ℕ)
+    → pieces_of qs (left ++ rest) ≡ (q.line, false) ∷ pieces_of qs (after ++ rest) =
+    λ qs rest.
+    ap (pieces_of qs) (regroup rest)
+    ∙ cut_at_mark 10 qs false q.line (after ++ rest) (q.uncut qs).uncut (q.uncut qs).inside_is refl in
     let less : length after < length left = plain_shorter left after index q in
     let before : length indexes + length left ≤ length bytes = p.shorter in
     record {

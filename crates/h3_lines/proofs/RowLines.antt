@@ -1,15 +1,14 @@
 -- Lines, as the rows of bytes in which no quote counts.
-use Rattle.std.proofs.Common.{◌≡◌, ℕ, ◌+◌, ◌==◌, Bool, true, false, ◌&&◌, List, [], ◌∷◌, ◌++◌, length, Option, None, Some, Result, Ok, Err, if◌then◌else◌, sym, ap, ◌∙◌, refl}
+use Rattle.std.proofs.Common.{◌≡◌, ℕ, ◌+◌, ◌==◌, Bool, true, false, List, [], ◌∷◌, ◌++◌, length, Option, None, Some, Result, Ok, Err, if◌then◌else◌, sym, ap, ◌∙◌, refl}
 use Rattle.h3_index.specs.Cell.{Address}
 use Rattle.h3_index.specs.declared.error.H3Error.{H3Error}
 use Rattle.h3_lines.proofs.Lengths.{empty_from_test}
-use Rattle.h3_lines.specs.PiecesLaws.{first_piece}
 use Rattle.h3_lines.specs.Answer.{Answer}
 use Rattle.h3_lines.specs.EachLine.{followed_by, line_answer, lines_answer}
 use Rattle.h3_lines.specs.Line.{lines_in-append}
-use Rattle.h3_lines.specs.List.{Says, cells_said, lines_of, listed_as, said_as, said_before, with_first as first_more}
+use Rattle.h3_lines.specs.List.{Says, cells_said, lines_of, listed_as, said_as, said_before}
 use Rattle.h3_lines.specs.Numbered.{RefusesAt, faulty_from, number_of_fault}
-use Rattle.h3_lines.specs.Pieces.{Piece, lines_in, pieces_of, rows_of, with_first, without_last_nothing}
+use Rattle.h3_lines.specs.Pieces.{Piece, lines_in, pieces_of, rows_of, without_last_nothing}
 use Rattle.h3_lines.specs.Taking.{IsRefusal, cells_from, read_before}
 use Rattle.h3_lines.specs.declared.run_error.AnswerError.{AnswerError}
 use Rattle.h3_lines.specs.declared.run_error.AnswerError.TheVariants.{At}
@@ -17,28 +16,10 @@ use Rattle.h3_lines.specs.declared.run_error.Fault.TheVariants.{Memory, Read, Wr
 use Rattle.h3_lines.specs.declared.run_error.RunError.{RunError}
 use Rattle.h3_lines.specs.declared.run_error.RunError.TheVariants.{Error, Fault}
 
-more_first : (b : ℕ) (bs : List ℕ) → lines_in (pieces_of false bs) ≡ lines_of bs
-    → lines_in (with_first b (pieces_of false bs)) ≡ first_more b (lines_of bs)
-more_first b bs same =
-    let (p, ps, e) = first_piece 10 false false bs in
-    let lines : lines_of bs ≡ p.0 ∷ lines_in ps = sym same ∙ ap lines_in e in
-    ap (λ c. lines_in (with_first b c)) e ∙ sym (ap (first_more b) lines)
-
--- what is cut at line feeds are the lines
-pub lines_are : (bytes : List ℕ) → lines_in (pieces_of false bytes) ≡ lines_of bytes
-lines_are [] = refl
-lines_are (b ∷ bs) =
-    let same = lines_are bs in
-    elim (b
-    == 10) as (λ t. lines_in
-    (if t && true then ([], false) ∷ pieces_of false bs else with_first b (pieces_of false bs))
-    ≡ (if t then [] ∷ lines_of bs else first_more b (lines_of bs)))
-    [ true ↦ ap (λ l. [] ∷ l) same | false ↦ more_first b bs same ]
-
 -- the lines that end in bytes, and the last one
 pub lines_begun : (bytes : List ℕ) (ended : List Piece) (last : Piece) → pieces_of false bytes ≡ ended ++ last ∷ []
     → lines_of bytes ≡ lines_in ended ++ last.0 ∷ []
-lines_begun bytes ended last is = sym (lines_are bytes) ∙ ap lines_in is ∙ lines_in-append ended (last ∷ [])
+lines_begun bytes ended last is = ap lines_in is ∙ lines_in-append ended (last ∷ [])
 
 -- ---- a last line without a byte is blank
 
@@ -56,7 +37,7 @@ module _ (answer : Option ℕ → Answer) where
 
   pub rows_answered : (bytes : List ℕ)
       → lines_answer answer 1 (lines_in (rows_of false bytes)) ≡ lines_answer answer 1 (lines_of bytes)
-  rows_answered bytes = pieces_answered 1 (pieces_of false bytes) ∙ ap (lines_answer answer 1) (lines_are bytes)
+  rows_answered bytes = pieces_answered 1 (pieces_of false bytes)
 
 -- the cells, or the error of the first faulty line, at its number
 last_read : (says : Says) (n : ℕ) (p : Piece) (t : Bool) → (length p.0 == 0) ≡ t
@@ -97,7 +78,6 @@ pub rows_numbered : (says : Says) (n : ℕ) (bytes : List ℕ)
     ≡ numbered (faulty_from says n (lines_of bytes)) (listed_as says bytes)
 rows_numbered says n bytes =
     pieces_read says n (pieces_of false bytes) ∙ lines_numbered says n (pieces_of false bytes)
-    ∙ ap (λ ls. numbered (faulty_from says n ls) (cells_said says ls)) (lines_are bytes)
 
 pub numbered_cells : (n : ℕ) (list : Result (List Address) H3Error) (cells : List Address) → numbered n list ≡ Ok cells
     → list ≡ Ok cells

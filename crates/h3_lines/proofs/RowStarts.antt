@@ -10,7 +10,8 @@ use Rattle.h3_lines.proofs.TakenRows.{piece_at_end}
 
 -- ---- bytes that begin with a row's beginning
 
-module _ (mark : ℕ) (quotes : Bool) {mid : Bool} (bytes : List ℕ) (held : ℕ) (begun : Uncut mark quotes false (take held bytes) mid) where
+module _ (mark : ℕ) (quotes : Bool) {mid : Bool} (bytes : List ℕ) (held : ℕ)
+    (begun : Uncut mark quotes false (take held bytes) mid) where
   pub uncut_on : {after : Bool} → Uncut mark quotes mid (drop held bytes) after → Uncut mark quotes false bytes after
   uncut_on {after} u =
       subst (λ l. Uncut mark quotes false l after) (take-append-drop held bytes)
@@ -20,7 +21,8 @@ module _ (mark : ℕ) (quotes : Bool) {mid : Bool} (bytes : List ℕ) (held : �
       → CutsAt mark quotes false bytes (take (held + length more) bytes) after
   cut_on more after cuts =
       let row : take held bytes ++ more ≡ take (held + length more) bytes =
-      sym (take-add held (length more) bytes ∙ ap (λ l. take held bytes ++ take (length more) l) cuts.split ∙ ap (λ l. take held bytes ++ l) (take-append_seam more (mark ∷ after))) in
+      sym (take-add held (length more) bytes ∙ ap (λ l. take held bytes ++ take (length more) l) cuts.split
+      ∙ ap (λ l. take held bytes ++ l) (take-append_seam more (mark ∷ after))) in
       record {
         begins =
             subst (λ l. Uncut mark quotes false l false) row

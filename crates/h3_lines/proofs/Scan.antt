@@ -87,7 +87,10 @@ pub unmarked_cut : (mark : ℕ) (bytes : List ℕ) (at : ℕ) → at < length by
     → CutsAt mark false false bytes (take at bytes) (drop (at + 1) bytes)
 unmarked_cut mark bytes at within none is =
     let same : get_or bytes at 0 ≡ mark = grind (arith, nat_tests) in
-    record { begins = unmarked mark false (take at bytes) (none_below (is_byte mark) bytes at (omega arith) none); split = split_at bytes at mark within same }
+    record {
+      begins = unmarked mark false (take at bytes) (none_below (is_byte mark) bytes at (omega arith) none);
+      split = split_at bytes at mark within same;
+    }
 
 pub unmarked_all : (mark : ℕ) (bytes : List ℕ)
     → ((j : ℕ) → 0 ≤ j → j < length bytes → is_byte mark (get_or bytes j 0) ≡ true → ⊥)

@@ -45,7 +45,12 @@ module _ {V : Type 0} (qs : Bool) (taken : V → List Piece → V → Type 0) wh
   pub goes_on : {v w : V} {whole : List ℕ} (line front left : List ℕ) → Goes qs taken v [] whole w [] left
       → whole ≡ line ++ front → Goes qs taken v line front w left []
   goes_on line front left g is =
-      record { ended = g.ended; rows = λ rest. ap (pieces_of qs) (sym (append_assoc line front rest) ∙ ap (λ l. l ++ rest) (sym is)) ∙ g.rows rest; takes = g.takes }
+      record {
+        ended = g.ended;
+        rows = λ rest.
+            ap (pieces_of qs) (sym (append_assoc line front rest) ∙ ap (λ l. l ++ rest) (sym is)) ∙ g.rows rest;
+        takes = g.takes;
+      }
 
   -- a row ends
   pub goes_cut : {v w : V} (bytes row after : List ℕ) → CutsAt 10 qs false bytes row after → taken v ((
@@ -119,7 +124,9 @@ module _ {V : Type 0} (qs : Bool) (refused : V → List Piece → V → RunError
       let ends : rows_of qs (line ++ rest) ≡ (line ++ p, t) ∷ more = ap without_last_nothing is ∙ kept in
       subst (λ l. refused v l w e) (sym ends) (refuses (line ++ p, t) long more)
 
-module _ {V : Type 0} (qs : Bool) (taken : V → List Piece → V → Type 0) (refused : V → List Piece → V → RunError → Type 0) (then_refused : (u v w : V) (xs ys : List Piece) (e : RunError) → taken u xs v → refused v ys w e → refused u (xs ++ ys) w e) where
+module _ {V : Type 0} (qs : Bool) (taken : V → List Piece → V → Type 0)
+    (refused : V → List Piece → V → RunError → Type 0) (then_refused : (u v w : V) (xs ys : List Piece) (e : RunError)
+    → taken u xs v → refused v ys w e → refused u (xs ++ ys) w e) where
   -- lines are refused after others were taken
   pub goes_refused : {u v w : V} {e : RunError} {line1 bytes1 line2 bytes2 : List ℕ} (rest : List ℕ)
       → Goes qs taken u line1 bytes1 v line2 bytes2 → refused v (rows_of qs (line2 ++ (bytes2 ++ rest))) w e
@@ -138,7 +145,8 @@ module _ {V : Type 0} (qs : Bool) (taken : V → List Piece → V → Type 0) (r
 
 -- The source had the bytes old left and now has those left. Of what was read the lines that end were taken, and this
 -- line is begun.
-pub record Took {V : Type 0} (qs : Bool) (taken : V → List Piece → V → Type 0) (v w : V) (line : List ℕ) (old now : Option (List ℕ)) (limit reads size : ℕ) : Type 0 where
+pub record Took {V : Type 0} (qs : Bool) (taken : V → List Piece → V → Type 0) (v w : V) (line : List ℕ)
+    (old now : Option (List ℕ)) (limit reads size : ℕ) : Type 0 where
   pub bytes : List ℕ
   pub consumed : Consumes old now bytes
   pub goes : Goes qs taken v [] bytes w line []
@@ -264,7 +272,8 @@ module _ {V : Type 0} (qs : Bool) (taken : V → List Piece → V → Type 0) wh
       let after : (more : List ℕ) → RefusesAfter rows_in refused w w' e t.goes.ended (t.bytes ++ front ++ more) =
       λ more. (
       let (others, is) = completes (t.bytes ++ front ++ more) in
-      let pieces : pieces_of qs (t.bytes ++ front ++ (more ++ others)) ≡ t.goes.ended ++ pieces_of qs (line ++ (front ++ (more ++ others))) =
+      let pieces : pieces_of qs (t.bytes ++ front ++ (more ++ others))
+      ≡ t.goes.ended ++ pieces_of qs (line ++ (front ++ (more ++ others))) =
       ap (pieces_of qs) (append_assoc t.bytes front (more ++ others)) ∙ t.goes.rows (front ++ (more ++ others)) in
       record {
         later = rows_of qs (line ++ (front ++ (more ++ others)));

@@ -42,7 +42,8 @@ abbrev pub FailsPush : List ℕ → SinkUse → Type 0
 FailsPush all sink = (0 < length all) × AppendsPart sink.before sink.after all × (sink.has_failed ≡ true)
 
 -- from one moment to a later one, of these bytes some are taken, and these are still held back
-pub record Moves {S : Type 0} (taken : S → Option (List ℕ)) (failed : S → Bool) (all held : List ℕ) (s t : S) : Type 0 where
+pub record Moves {S : Type 0} (taken : S → Option (List ℕ)) (failed : S → Bool) (all held : List ℕ)
+    (s t : S) : Type 0 where
   pub part : List ℕ
   pub split : all ≡ part ++ held
   pub grown : Appends (taken s) (taken t) part
@@ -52,7 +53,9 @@ pub record Moves {S : Type 0} (taken : S → Option (List ℕ)) (failed : S → 
 
 -- From one moment to a later one these pieces are answered, from the one state to the other: some of the answers is
 -- taken by the sink, and the rest held back.
-pub record Answered {S L N : Type 0} (taken : S → Option (List ℕ)) (failed : S → Bool) (answer : L → N → List Piece → Answer) (v w : N) (held held' : List ℕ) (old new : S) (pieces : List Piece) : Type 0 where
+pub record Answered {S L N : Type 0} (taken : S → Option (List ℕ)) (failed : S → Bool)
+    (answer : L → N → List Piece → Answer) (v w : N) (held held' : List ℕ) (old new : S)
+    (pieces : List Piece) : Type 0 where
   pub text : List ℕ
   pub says : (last : L) (more : List Piece) → answer last v (pieces ++ more) ≡ before text (answer last w more)
   pub moves : Moves taken failed (held ++ text) held' old new

@@ -4,7 +4,8 @@ use Rattle.std.proofs.lemmas.List.{take-append-le, take_more_set}
 
 take_past : (xs ys : List ℕ) (n : ℕ) → take (length xs + n) (xs ++ ys) ≡ xs ++ take n ys
 take_past [] ys n = let same : 0 + n ≡ n = omega arith in rw same refl
-take_past (x ∷ xs) ys n = let next : suc (length xs) + n ≡ suc (length xs + n) = omega arith in rw next (ap (λ l. x ∷ l) (take_past xs ys n))
+take_past (x ∷ xs) ys n =
+    let next : suc (length xs) + n ≡ suc (length xs + n) = omega arith in rw next (ap (λ l. x ∷ l) (take_past xs ys n))
 
 -- bytes put at a place of a block, and one more after the first of them
 pub bytes_put : (block put bytes : List ℕ) (at count k last : ℕ) → put ≡ bytes → count ≤ length bytes → k ≡ length bytes
@@ -28,6 +29,7 @@ bytes_put block put bytes at count k last is within size room =
       within,
     ) in
     let front : take (at + count) whole ≡ take at block ++ take count bytes =
-    ap (λ n. take (n + count) whole) (sym before) ∙ take_past (take at block) (bytes ++ rest) count ∙ ap (λ l. take at block ++ l) (take-append-le count bytes rest within) in
+    ap (λ n. take (n + count) whole) (sym before) ∙ take_past (take at block) (bytes ++ rest) count
+    ∙ ap (λ l. take at block ++ l) (take-append-le count bytes rest within) in
     rw is (take_more_set whole (at + count) last all ∙ ap (λ l. l ++ last ∷ []) front
     ∙ append_assoc (take at block) (take count bytes) (last ∷ []))

@@ -150,7 +150,11 @@ module _ {S : Type 0} (taken : S → Option (List ℕ)) (failed : S → Bool) wh
       → EndsBy (before done a) e (sink_use taken failed s u)
   ends_after s t u a done (Error e) grown same (ending, takes) =
       (ending, (Appends-trans (taken s) (taken t) (taken u) done a.output grown takes.0, takes.1 ∙ same))
-  ends_after s t u a done (Fault Write) grown same w = (let some : 0 < length a.output = w.0 in omega (arith, length-append done a.output), some_after s t u done a.output grown same w.1)
+  ends_after s t u a done (Fault Write) grown same w = (
+    let some : 0 < length a.output = w.0 in
+        omega (arith, length-append done a.output),
+    some_after s t u done a.output grown same w.1,
+  )
   ends_after s t u a done (Fault Read) grown same never = absurd never
   ends_after s t u a done (Fault Memory) grown same never = absurd never
 
@@ -158,7 +162,11 @@ module _ {S : Type 0} (taken : S → Option (List ℕ)) (failed : S → Bool) wh
   pub answered_by : {L N : Type 0} (answer : L → N → List Piece → Answer) (v w : N) (held held' : List ℕ) (s t : S)
       → w ≡ v → Moves taken failed held held' s t → Answered taken failed answer v w held held' s t []
   answered_by answer v w held held' s t same m =
-      record { text = []; says = λ last more. ap (λ x. answer last x more) (sym same); moves = subst (λ l. Moves taken failed l held' s t) (sym (append-nil held)) m }
+      record {
+        text = [];
+        says = λ last more. ap (λ x. answer last x more) (sym same);
+        moves = subst (λ l. Moves taken failed l held' s t) (sym (append-nil held)) m;
+      }
 
   pub answered_none : {L N : Type 0} (answer : L → N → List Piece → Answer) (v : N) (held : List ℕ) (s : S)
       → Answered taken failed answer v v held held s s []
@@ -170,8 +178,13 @@ module _ {S : Type 0} (taken : S → Option (List ℕ)) (failed : S → Bool) wh
       → Answered taken failed (answer_of g) w x h2 h3 t u ys
       → Answered taken failed (answer_of f) v x h1 h3 s u (xs ++ ys)
   answered_then {L = L} answer_of {f} {g} {v} {w} {x} {h1} {h2} {h3} {s} {t} {u} xs ys same p q =
-      let says : (last : L) (more : List Piece) → answer_of f last w (ys ++ more) ≡ before q.text (answer_of f last x more) =
-      subst (λ e. (last : L) (more : List Piece) → answer_of e last w (ys ++ more) ≡ before q.text (answer_of e last x more)) same q.says in
+      let says : (last : L) (more : List Piece)
+      → answer_of f last w (ys ++ more) ≡ before q.text (answer_of f last x more) =
+      subst
+      (λ e.
+      (last : L) (more : List Piece)
+      → answer_of e last w (ys ++ more) ≡ before q.text (answer_of e last x more))
+      same q.says in
       record {
         text = p.text ++ q.text;
         says =
@@ -191,7 +204,8 @@ module _ {S : Type 0} (taken : S → Option (List ℕ)) (failed : S → Bool) wh
       let rest = answer_of f last w ys in
       let m = p.moves in
       let is : before h1 (answer_of f last v (xs ++ ys)) ≡ before m.part (before h2 rest) =
-      ap (before h1) (p.says last ys) ∙ before_before h1 p.text rest ∙ ap (λ l. before l rest) m.split ∙ sym (before_before m.part h2 rest) in
+      ap (before h1) (p.says last ys) ∙ before_before h1 p.text rest ∙ ap (λ l. before l rest) m.split
+      ∙ sym (before_before m.part h2 rest) in
       let after : EndsBy (before h2 rest) e (sink_use taken failed t u) =
       subst (λ d. EndsBy (before h2 (answer_of d last w ys)) e (sink_use taken failed t u)) same (refuses last) in
       subst (λ a. EndsBy a e (sink_use taken failed s u)) (sym is)

@@ -16,7 +16,8 @@ use Rattle.h3_lines.specs.Write.{SinkUse, Writes}
 --
 -- there are bytes of the list, those left in the source where they are known; all of them are read, in reads that may
 -- be made, and the answer is written
-pub record AnswersAll (whole : List ℕ → Answer) (old new : Option (List ℕ)) (ending : Result (Unit {0}) RunError) (out : SinkUse) : Type 0 where
+pub record AnswersAll (whole : List ℕ → Answer) (old new : Option (List ℕ)) (ending : Result (Unit {0}) RunError)
+    (out : SinkUse) : Type 0 where
   pub list : List ℕ
   pub held : HasLeft old list
   pub consumed : Consumes old new list
@@ -30,7 +31,8 @@ pub record AnswersAll (whole : List ℕ → Answer) (old new : Option (List ℕ)
 -- source: a read that fails takes none. The pieces that end in what was read are answered, without an error that ends
 -- the answer, and no other: not the one that the fault cuts, of which no more was read than a piece may have. What was
 -- read fits into the reads that may be made.
-pub record AnswersBeforeFault {P : Type 0} (cut : List ℕ → List P) (size : P → ℕ) (longest : ℕ) (begun : List P → Answer) (old new : Option (List ℕ)) (has_failed : Bool) (out : SinkUse) : Type 0 where
+pub record AnswersBeforeFault {P : Type 0} (cut : List ℕ → List P) (size : P → ℕ) (longest : ℕ)
+    (begun : List P → Answer) (old new : Option (List ℕ)) (has_failed : Bool) (out : SinkUse) : Type 0 where
   pub part : List ℕ
   pub rest : List ℕ
   pub held : HasLeft old (part ++ rest)
@@ -49,7 +51,8 @@ pub record AnswersBeforeFault {P : Type 0} (cut : List ℕ → List P) (size : P
 -- The bytes of the list, those left in the source where they are known. A part of them is read, and then at most a page
 -- more. The answer to the pieces that end in that part has no error, and of the piece that does not end in it no more
 -- was read before that page than a piece may have.
-pub record StopsInPage {P : Type 0} (cut : List ℕ → List P) (size : P → ℕ) (longest : ℕ) (begun : List P → Answer) (old new : Option (List ℕ)) : Type 0 where
+pub record StopsInPage {P : Type 0} (cut : List ℕ → List P) (size : P → ℕ) (longest : ℕ) (begun : List P → Answer)
+    (old new : Option (List ℕ)) : Type 0 where
   pub part : List ℕ
   pub last : List ℕ
   pub rest : List ℕ

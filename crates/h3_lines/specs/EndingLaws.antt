@@ -50,7 +50,9 @@ module _ {S : Type 0} (taken : S → Option (List ℕ)) (failed : S → Bool) (f
 
 -- ---- pieces that are answered to their end, where nothing was held back before them and nothing is after them
 
-module _ {S L N : Type 0} (taken : S → Option (List ℕ)) (failed : S → Bool) (answer : L → N → List Piece → Answer) {v w : N} {s t : S} {h1 h2 : List ℕ} {ls : List Piece} (a : Answered taken failed answer v w h1 h2 s t ls) (first : h1 ≡ []) (none : h2 ≡ []) where
+module _ {S L N : Type 0} (taken : S → Option (List ℕ)) (failed : S → Bool) (answer : L → N → List Piece → Answer)
+    {v w : N} {s t : S} {h1 h2 : List ℕ} {ls : List Piece} (a : Answered taken failed answer v w h1 h2 s t ls)
+    (first : h1 ≡ []) (none : h2 ≡ []) where
   moved : a.text ≡ a.moves.part
   moved = ap (λ l. l ++ a.text) (sym first) ∙ a.moves.split ∙ ap (λ l. a.moves.part ++ l) none ∙ append-nil a.moves.part
 
@@ -114,7 +116,9 @@ module _ {S L N : Type 0} (taken : S → Option (List ℕ)) (failed : S → Bool
       })
 
 -- what takes the pieces, how it answers them, and how a contract cuts the list
-module _ {S V L N P : Type 0} (qs : Bool) (rows_in : List ℕ → List Piece) (longest : ℕ) (taken : S → Option (List ℕ)) (failed : S → Bool) (answer_of : V → L → N → List Piece → Answer) (nothing : L) (is_nothing : (v : V) (n : N) → answer_of v nothing n [] ≡ written [])
+module _ {S V L N P : Type 0} (qs : Bool) (rows_in : List ℕ → List Piece) (longest : ℕ) (taken : S → Option (List ℕ))
+    (failed : S → Bool) (answer_of : V → L → N → List Piece → Answer) (nothing : L)
+    (is_nothing : (v : V) (n : N) → answer_of v nothing n [] ≡ written [])
     (state : V → N) (held : V → List ℕ) (out : V → S) (takes : V → List Piece → V → Type 0)
     (refused : V → List Piece → V → RunError → Type 0) (settled : V → Type 0)
     (answers : (v w : V) (ls : List Piece) → takes v ls w
@@ -129,7 +133,8 @@ module _ {S V L N P : Type 0} (qs : Bool) (rows_in : List ℕ → List Piece) (l
     (size : P → ℕ) (sizes : (p : Piece) → size (one p) ≡ length p.0)
     (v w : V) (last : L) (none : held v ≡ []) (begun : List P → Answer)
     (begins : (ls : List Piece) → answer_of v nothing (state v) ls ≡ begun (each ls))
-    (whole : List ℕ → Answer) (wholes : (bytes : List ℕ) → answer_of v last (state v) (rows_in bytes) ≡ whole bytes) (old new : Option (List ℕ)) where
+    (whole : List ℕ → Answer) (wholes : (bytes : List ℕ) → answer_of v last (state v) (rows_in bytes) ≡ whole bytes)
+    (old new : Option (List ℕ)) where
   stops_in_page : (e : RunError) → StopsTaking qs rows_in longest takes refused settled v w e old new (2 ^ 40) 65536
       → StopsInPage cut size longest begun old new
   stops_in_page e s = record {
@@ -171,8 +176,13 @@ module _ {S V L N P : Type 0} (qs : Bool) (rows_in : List ℕ → List Piece) (l
     stops_in_page (Fault Write) s,
     subst (λ b. TakesBeginning b.output (whole (s.part ++ s.last ++ s.rest)).output
         (sink_use taken failed (out v) (out w))) (begins s.ended)
-        (subst (λ b. TakesBeginning (answer_of v nothing (state v) s.ended).output b.output (sink_use taken failed (out v) (out w))) (wholes (s.part ++ s.last ++ s.rest))
-        (part_written taken failed (answer_of v) (answers v s.mid s.ended s.takes) none (empty s.mid s.settles) nothing last (out w) s.refuses.later _ (is_nothing v (state s.mid)) s.refuses.rows (refuses_mid (Fault Write) s))),
+        (subst
+        (λ b.
+        TakesBeginning (answer_of v nothing (state v) s.ended).output b.output
+        (sink_use taken failed (out v) (out w)))
+        (wholes (s.part ++ s.last ++ s.rest))
+        (part_written taken failed (answer_of v) (answers v s.mid s.ended s.takes) none (empty s.mid s.settles) nothing
+        last (out w) s.refuses.later _ (is_nothing v (state s.mid)) s.refuses.rows (refuses_mid (Fault Write) s))),
   )
   stopped (Fault Read) has s = absurd (refuses_mid (Fault Read) s last)
   stopped (Fault Memory) has s = absurd (refuses_mid (Fault Memory) s last)
@@ -185,8 +195,12 @@ module _ {S V L N P : Type 0} (qs : Bool) (rows_in : List ℕ → List Piece) (l
       × ((other : L) → (answer_of v other (state v) (rows_in (list_at stop))).ending ≡ Err e)
   unfolding stops_in_page Writes
   ends_at_piece e s =
-      let written_by : (other : L) → Writes (answer_of v other (state v) (rows_in (s.part ++ s.last ++ s.rest))) (Err (Error e)) (sink_use taken failed (out v) (out w)) =
-      λ other. error_written taken failed (answer_of v) (answers v s.mid s.ended s.takes) none (empty s.mid s.settles) other (out w) s.refuses.later _ e s.refuses.rows (refuses_mid (Error e) s) in (
+      let written_by : (other : L)
+      → Writes (answer_of v other (state v) (rows_in (s.part ++ s.last ++ s.rest))) (Err (Error e))
+      (sink_use taken failed (out v) (out w)) =
+      λ other.
+      error_written taken failed (answer_of v) (answers v s.mid s.ended s.takes) none (empty s.mid s.settles) other
+      (out w) s.refuses.later _ e s.refuses.rows (refuses_mid (Error e) s) in (
         stops_in_page (Error e) s,
         subst (λ b. Writes b (Err (Error e)) (sink_use taken failed (out v) (out w)))
             (wholes (s.part ++ s.last ++ s.rest)) (written_by last),

@@ -1,10 +1,11 @@
 -- The list of cells in the bytes of an input, one cell a line.
-use Rattle.std.specs.Prelude.{◌≡◌, ℕ, ◌==◌, nat_lt, List, [], ◌∷◌, length, ⊤, Option, None, Some, Result, Ok, Err, if◌then◌else◌}
+use Rattle.std.specs.Prelude.{◌≡◌, ℕ, ◌==◌, nat_lt, false, List, [], ◌∷◌, length, ⊤, Option, None, Some, Result, Ok, Err, if◌then◌else◌}
 use Rattle.h3_index.specs.Cell.{Address}
 use Rattle.h3_index.specs.CellNumber.{cell_in}
 use Rattle.h3_index.specs.Text.{parsed_index, trimmed}
 use Rattle.h3_index.specs.declared.error.H3Error.{H3Error}
 use Rattle.h3_index.specs.declared.error.H3Error.TheVariants.{Failed, CellInvalid}
+use Rattle.h3_lines.specs.Pieces.{lines_in, pieces_of}
 use Rattle.h3_lines.specs.declared.run_error.AnswerError.TheVariants.{Call}
 use Rattle.h3_lines.specs.declared.run_error.Fault.TheVariants.{Memory, Read, Write}
 use Rattle.h3_lines.specs.declared.run_error.RunError.{RunError}
@@ -12,15 +13,9 @@ use Rattle.h3_lines.specs.declared.run_error.RunError.TheVariants.{Error, Fault}
 
 -- ---- lines
 
--- lines, the first with one byte more in front
-abbrev pub with_first : ℕ → List (List ℕ) → List (List ℕ)
-with_first b [] = (b ∷ []) ∷ []
-with_first b (line ∷ lines) = (b ∷ line) ∷ lines
-
--- the bytes split at each line feed: what follows the last one is a line too, if an empty one
+-- lines_of bytes: the bytes split at each line feed: what follows the last one is a line too, if an empty one
 abbrev pub lines_of : List ℕ → List (List ℕ)
-lines_of [] = [] ∷ []
-lines_of (b ∷ bs) = if b == 10 then [] ∷ lines_of bs else with_first b (lines_of bs)
+lines_of bytes = lines_in (pieces_of false bytes)
 
 -- ---- what a line says: a cell, or nothing, or why it is faulty
 

@@ -15,8 +15,11 @@ pub none_below : (test : ℕ → Bool) (bytes : List ℕ) (k : ℕ) → k ≤ le
     → ((j : ℕ) → 0 ≤ j → j < k → test (get_or bytes j 0) ≡ true → ⊥)
     → list_all (λ b. not (test b)) (take k bytes) ≡ true
 none_below test bytes k within none =
-    list_all-from_AllPass (λ b. not (test b)) (take k bytes) (All-from_get_or (λ b. not (test b) ≡ true) (take k bytes) 0
-    (λ i below. let short : i < k = omega (arith, length-take {A = ℕ}) in rw (get_or-take k bytes i 0 short) (negated (test (get_or bytes i 0)) (none i (omega arith) short))))
+    list_all-from_AllPass (λ b. not (test b)) (take k bytes)
+    (All-from_get_or (λ b. not (test b) ≡ true) (take k bytes) 0
+    (λ i below.
+    let short : i < k = omega (arith, length-take {A = ℕ}) in
+    rw (get_or-take k bytes i 0 short) (negated (test (get_or bytes i 0)) (none i (omega arith) short))))
 
 pub neither : (x y more : Bool) → (not (x || y) && more) ≡ true → (x ≡ false) × (y ≡ false) × (more ≡ true)
 neither true y more h = absurd (cc)

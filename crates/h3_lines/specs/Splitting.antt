@@ -11,14 +11,16 @@ use Rattle.h3_lines.specs.declared.run_error.RunError.{RunError}
 
 -- Goes quotes taken v row bytes w row' bytes': the rows that end in `row ++ bytes`, up to where `row' ++ bytes'` is
 -- left, were taken, whatever bytes follow
-pub record Goes {V : Type 0} (q : Bool) (taken : V → List Piece → V → Type 0) (v : V) (row bytes : List ℕ) (w : V) (row' bytes' : List ℕ) : Type 0 where
+pub record Goes {V : Type 0} (q : Bool) (taken : V → List Piece → V → Type 0) (v : V) (row bytes : List ℕ) (w : V)
+    (row' bytes' : List ℕ) : Type 0 where
   pub ended : List Piece
   pub rows : (rest : List ℕ) → pieces_of q (row ++ (bytes ++ rest)) ≡ ended ++ pieces_of q (row' ++ (bytes' ++ rest))
   pub takes : taken v ended w
 
 -- TakesAll rows taken v w old new reads page: all bytes of the source, in so many reads of such a page, and their rows
 -- were taken
-pub record TakesAll {V : Type 0} (rows : List ℕ → List Piece) (taken : V → List Piece → V → Type 0) (v w : V) (old new : Option (List ℕ)) (reads page : ℕ) : Type 0 where
+pub record TakesAll {V : Type 0} (rows : List ℕ → List Piece) (taken : V → List Piece → V → Type 0) (v w : V)
+    (old new : Option (List ℕ)) (reads page : ℕ) : Type 0 where
   pub bytes : List ℕ
   pub held : HasLeft old bytes
   pub consumed : Consumes old new bytes
@@ -27,7 +29,8 @@ pub record TakesAll {V : Type 0} (rows : List ℕ → List Piece) (taken : V →
 
 -- TakesEnded quotes longest taken v w left inside old new reads page: all bytes of the source, in so many reads of such
 -- a page, and the rows that end in them were taken; what follows the last of these is left, and is inside quotes or not
-pub record TakesEnded {V : Type 0} (q : Bool) (longest : ℕ) (taken : V → List Piece → V → Type 0) (v w : V) (left : List ℕ) (inside : Bool)
+pub record TakesEnded {V : Type 0} (q : Bool) (longest : ℕ) (taken : V → List Piece → V → Type 0) (v w : V)
+    (left : List ℕ) (inside : Bool)
     (old new : Option (List ℕ)) (reads page : ℕ) : Type 0 where
   pub bytes : List ℕ
   pub held : HasLeft old bytes
@@ -41,7 +44,8 @@ pub record TakesEnded {V : Type 0} (q : Bool) (longest : ℕ) (taken : V → Lis
 -- StopsReading quotes longest taken settled v w old new fails reads page: a read failed, or none was left; the source
 -- had these bytes, of which a part was read before, in so many reads of such a page at most; the rows that end in that
 -- part were taken
-pub record StopsReading {V : Type 0} (q : Bool) (longest : ℕ) (taken : V → List Piece → V → Type 0) (settled : V → Type 0) (v w : V) (old new : Option (List ℕ)) (fails : Type 0) (reads page : ℕ) : Type 0 where
+pub record StopsReading {V : Type 0} (q : Bool) (longest : ℕ) (taken : V → List Piece → V → Type 0)
+    (settled : V → Type 0) (v w : V) (old new : Option (List ℕ)) (fails : Type 0) (reads page : ℕ) : Type 0 where
   pub part : List ℕ
   pub rest : List ℕ
   pub held : HasLeft old (part ++ rest)
@@ -57,7 +61,8 @@ pub record StopsReading {V : Type 0} (q : Bool) (longest : ℕ) (taken : V → L
 
 -- RefusesAfter rows refused v w e ended bytes: the rows of the bytes are these, and others that are refused from the
 -- one moment to the other
-pub record RefusesAfter {V : Type 0} (rows_in : List ℕ → List Piece) (refused : V → List Piece → V → RunError → Type 0) (v w : V) (e : RunError) (ended : List Piece) (bytes : List ℕ) : Type 0 where
+pub record RefusesAfter {V : Type 0} (rows_in : List ℕ → List Piece) (refused : V → List Piece → V → RunError → Type 0)
+    (v w : V) (e : RunError) (ended : List Piece) (bytes : List ℕ) : Type 0 where
   pub later : List Piece
   pub rows : rows_in bytes ≡ ended ++ later
   pub refuses : refused v later w e
@@ -72,7 +77,9 @@ Completes q rows_in = (bytes : List ℕ) → (more : List ℕ) × (rows_in bytes
 -- The source had these bytes, of which a part was read, and then a page more at most; the rows that end in that part
 -- were taken, and of the others one was refused. So many reads of such a page can find the end of the bytes, or it is
 -- refused whatever bytes come after those that were read.
-pub record StopsTaking {V : Type 0} (q : Bool) (rows_in : List ℕ → List Piece) (longest : ℕ) (taken : V → List Piece → V → Type 0) (refused : V → List Piece → V → RunError → Type 0) (settled : V → Type 0) (v w : V) (e : RunError)
+pub record StopsTaking {V : Type 0} (q : Bool) (rows_in : List ℕ → List Piece) (longest : ℕ)
+    (taken : V → List Piece → V → Type 0) (refused : V → List Piece → V → RunError → Type 0) (settled : V → Type 0)
+    (v w : V) (e : RunError)
     (old new : Option (List ℕ)) (reads page : ℕ) : Type 0 where
   pub part : List ℕ
   pub last : List ℕ

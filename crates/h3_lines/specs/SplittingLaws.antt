@@ -17,13 +17,21 @@ pub rows_end : (q : Bool) (bytes : List ℕ) (ended : List Piece) (p : Piece) �
 rows_end q bytes ended p is = ap without_last_nothing is ∙ kept_first ended p []
 
 -- all bytes of a source are read, and the rows that end in them are taken; the rows of these bytes are those and more
-module _ {V : Type 0} (q : Bool) (longest : ℕ) (taken : V → List Piece → V → Type 0) (rows_in : List ℕ → List Piece) {v w : V} {left : List ℕ} {inside : Bool} {old new : Option (List ℕ)} {reads page : ℕ}
-    (t : TakesEnded q longest taken v w left inside old new reads page) (more : List Piece) (rows : rows_in t.bytes ≡ t.ended ++ more) where
+module _ {V : Type 0} (q : Bool) (longest : ℕ) (taken : V → List Piece → V → Type 0) (rows_in : List ℕ → List Piece)
+    {v w : V} {left : List ℕ} {inside : Bool} {old new : Option (List ℕ)} {reads page : ℕ}
+    (t : TakesEnded q longest taken v w left inside old new reads page) (more : List Piece)
+    (rows : rows_in t.bytes ≡ t.ended ++ more) where
   -- more are taken
   pub ended_taken : ((u v w : V) (xs ys : List Piece) → taken u xs v → taken v ys w → taken u (xs ++ ys) w) → {x : V}
       → taken w more x → TakesAll rows_in taken v x old new reads page
   ended_taken both {x} takes =
-      record { bytes = t.bytes; held = t.held; consumed = t.consumed; within = t.within; takes = subst (λ ls. taken v ls x) (sym rows) (both v w x t.ended more t.takes takes) }
+      record {
+        bytes = t.bytes;
+        held = t.held;
+        consumed = t.consumed;
+        within = t.within;
+        takes = subst (λ ls. taken v ls x) (sym rows) (both v w x t.ended more t.takes takes);
+      }
 
   -- one of them is refused
   pub ended_refused : (refused : V → List Piece → V → RunError → Type 0) (settled : V → Type 0) {x : V} {e : RunError}

@@ -21,8 +21,8 @@ abbrev pub cells_before : {C : Type 0} → List C → Result (List C) AnswerErro
 cells_before cells (Ok later) = Ok (cells ++ later)
 cells_before cells (Err e) = Err e
 
--- ---- rows that are read: `cells_of last v rows` are their cells in the state v, or the error of the first that has one, and
--- then what is last
+-- ---- rows that are read: `cells_of last v rows` are their cells in the state v, or the error of the first that has
+-- one, and then what is last
 
 -- from the one state to the other these rows are read, which have these cells and no error
 abbrev pub HaveCells : {C L N : Type 0} → (L → N → List Piece → Result (List C) AnswerError) → N → List Piece → List C

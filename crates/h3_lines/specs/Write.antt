@@ -32,7 +32,13 @@ pub record SinkUse : Type 1 where
 -- sink_use: that use of a sink, from its two states
 abbrev pub sink_use : {S : Type 0} → (S → Option (List ℕ)) → (S → Bool) → S → S → SinkUse
 sink_use taken failed old new =
-    record { before = taken old; after = taken new; had_failed = failed old; has_failed = failed new; may_have_taken = MayHaveTaken taken failed old new }
+    record {
+      before = taken old;
+      after = taken new;
+      had_failed = failed old;
+      has_failed = failed new;
+      may_have_taken = MayHaveTaken taken failed old new;
+    }
 
 -- IsLeft sink: it took nothing, and did not fail
 abbrev pub IsLeft : SinkUse → Type 0

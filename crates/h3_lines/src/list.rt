@@ -113,8 +113,8 @@ pub fn read_cells<R: Source>(alloc: Global, input: &mut R) -> Result<Vec<Cell>, 
 ///
 /// The first one that is met, of:
 ///
-/// - `AnswerError::At` with the first faulty line and its error: `Failed` if it has more than 64 bytes or parses as no index,
-///   `CellInvalid` if no cell has the index.
+/// - `AnswerError::At` with the first faulty line and its error: `Failed` if it has more than 64 bytes or parses as no
+///   index, `CellInvalid` if no cell has the index.
 /// - `Fault::Read` if a read fails, or the end is not found in 2^40 reads.
 /// - `Fault::Memory` if there is no memory for the page or a cell.
 pub fn read_numbered_cells<R: Source>(alloc: Global, input: &mut R) -> Result<Vec<Cell>, RunError>

@@ -1,5 +1,5 @@
-//! Plain lines: fifteen digits in lower case, which are read without a search for their end; and lines of as many digits
-//! in capitals, with a prefix or with a carriage return.
+//! Plain lines: fifteen digits in lower case, which are read without a search for their end; and lines of as many
+//! digits in capitals, with a prefix or with a carriage return.
 
 ghost use Rattle.std.specs.Prelude.{◌≡◌, ◌≤◌, ◌<◌, ◌+◌, ◌^◌, ◌++◌, ◌∷◌, [], Bool, ℕ, List, get_or, length, take, IfOk, IfErr, IfSome, IfNone, OnOk};
 ghost use Rattle.h3_lines.specs.Pieces.{Piece, rows_of};

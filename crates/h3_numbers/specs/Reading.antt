@@ -51,8 +51,8 @@ abbrev pub signed : Bool → ℕ → ℤ
 signed true size = neg_ℤ (pos size)
 signed false size = pos size
 
--- parsed_decimal text: the value, in units of 10^-18, of an optional sign, one digit or more, and optionally a point and
--- one to eighteen digits; none of any other text
+-- parsed_decimal text: the value, in units of 10^-18, of an optional sign, one digit or more, and optionally a point
+-- and one to eighteen digits; none of any other text
 abbrev pub parsed_decimal : List ℕ → Option ℤ
 parsed_decimal text =
     let bytes = without_sign text in

@@ -51,7 +51,8 @@ module _ (numbers old now : List ℕ) (i : ℕ) (once : AllPairs (λ m n. m ≢ 
           size = length-set now n v ∙ inv.size;
           more = λ k d lk ll. elim (cases_lt k i) [
             | inl less ↦
-                let ne : get_or numbers k d ≢ get_or numbers i e = λ h. once k i d less lt (h ∙ any_default numbers i e d lt) in
+                let ne : get_or numbers k d ≢ get_or numbers i e =
+                λ h. once k i d less lt (h ∙ any_default numbers i e d lt) in
                 get_or-set_other now n (get_or numbers k d) v 0 ne ∙ inv.more k d less ll
             | inr not ↦
                 let at : k ≡ i = omega (arith, lk, not) in
@@ -117,7 +118,8 @@ module _ (areas : List (Address × ℕ)) (cells : List Address) (size : ℕ) (co
           let m : Contains list n = (are.each n).1 ((tested found areas x n).0 t) in
           more n m ∙ ap (λ v. v + 1) (inv.each n ln) ∙ sym (plus (λ y. lies_in areas y n) t)
       | inr f ↦
-          let out : ¬ Contains list n = λ m. both_ways (lies_in areas x n) f ((tested found areas x n).1 ((are.each n).0 m)) in
+          let out : ¬ Contains list n =
+          λ m. both_ways (lies_in areas x n) f ((tested found areas x n).1 ((are.each n).0 m)) in
           same n out ∙ inv.each n ln ∙ sym (keep (λ y. lies_in areas y n) f)
     ]
 
@@ -130,7 +132,8 @@ module _ (areas : List (Address × ℕ)) (cells : List Address) (size : ℕ) (co
           each = each_next;
           others =
               inv.others
-              ∙ sym (keep (λ y. not (is_covered (map (λ p. p.0) areas) y)) (ap not (area_covers found areas x (get_or list 0 0) lies)));
+              ∙ sym (keep (λ y. not (is_covered (map (λ p. p.0) areas) y))
+              (ap not (area_covers found areas x (get_or list 0 0) lies)));
         }
 
     pub none_next : length list ≡ 0 → IsCountingAll areas cells size new (none + 1) (k + 1)
@@ -139,5 +142,6 @@ module _ (areas : List (Address × ℕ)) (cells : List Address) (size : ℕ) (co
       each = each_next;
       others =
           ap (λ v. v + 1) inv.others
-          ∙ sym (plus (λ y. not (is_covered (map (λ p. p.0) areas) y)) (ap not (no_area_covers found areas x (λ n h. let m = (are.each n).1 h in omega (arith, m.1, empty)))));
+          ∙ sym (plus (λ y. not (is_covered (map (λ p. p.0) areas) y))
+          (ap not (no_area_covers found areas x (λ n h. let m = (are.each n).1 h in omega (arith, m.1, empty)))));
     }

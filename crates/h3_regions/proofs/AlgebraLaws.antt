@@ -31,17 +31,21 @@ covers_both a b r x = (
 )
 
 -- lists of cells that cover the same at resolution 15 compact to one
-alike_one : CoveragesDecideLists → (a b : List Address) → All IsCell a → All IsCell b → ((x : Address) → IsCovered a 15 x → IsCovered b 15 x) → ((x : Address) → IsCovered b 15 x → IsCovered a 15 x) → compacted a ≡ compacted b
+alike_one : CoveragesDecideLists → (a b : List Address) → All IsCell a → All IsCell b
+    → ((x : Address) → IsCovered a 15 x → IsCovered b 15 x) → ((x : Address) → IsCovered b 15 x → IsCovered a 15 x)
+    → compacted a ≡ compacted b
 alike_one decide a b va vb f g =
     decide a b 15 va vb (fine_within a va) (fine_within b vb) (omega arith) (λ x. (f x, g x))
 
-pub permuted_covers : (a b : List Address) (r : ℕ) → IsPermutation a b → (x : Address) → IsCovered a r x → IsCovered b r x
+pub permuted_covers : (a b : List Address) (r : ℕ) → IsPermutation a b → (x : Address) → IsCovered a r x
+    → IsCovered b r x
 permuted_covers a b r same x c =
     record { by = c.by; member = Contains-permutation a b c.by same c.member; below = c.below }
 
 pub in_any_order : CoveragesDecideLists → UnionsInAnyOrder
 in_any_order decide a b va same =
-    alike_one decide a b va (All-permutation IsCell a b same va) (permuted_covers a b 15 same) (permuted_covers b a 15 (IsPermutation-sym a b same))
+    alike_one decide a b va (All-permutation IsCell a b same va) (permuted_covers a b 15 same)
+    (permuted_covers b a 15 (IsPermutation-sym a b same))
 
 pub in_parts : ListsCompactInParts → UnionsInParts
 in_parts parts cells divided valid same = (parts cells divided valid same).same
@@ -53,36 +57,77 @@ twice decide a va =
     (λ x c. (covers_both a a 15 x).1 (inl c))
 
 -- the compacted list of a compacted list is that list
-pub again : CoveragesDecideLists → CompactedListsAreCompacted → CompactedListsCoverAlike → (a : List Address) → All IsCell a → compacted (compacted a) ≡ compacted a
+pub again : CoveragesDecideLists → CompactedListsAreCompacted → CompactedListsCoverAlike → (a : List Address)
+    → All IsCell a → compacted (compacted a) ≡ compacted a
 again decide made alike a va =
     alike_one decide (compacted a) a (made a va).cells_valid va
     (λ x. (alike a 15 va (fine_within a va) x).1)
     (λ x. (alike a 15 va (fine_within a va) x).0)
 
-pub of_one : CoveragesDecideLists → CompactedListsAreCompacted → CompactedListsCoverAlike → ReducedListsAreReordered → UnionsOfOne
+pub of_one : CoveragesDecideLists → CompactedListsAreCompacted → CompactedListsCoverAlike → ReducedListsAreReordered
+    → UnionsOfOne
 of_one decide made alike reordered = record {
   list = λ a va. twice decide (compacted a) (made a va).cells_valid ∙ again decide made alike a va;
-  region = λ a region. subst (λ l. IsPermutation l a) (sym (twice decide a region.valid)) (reordered a region.valid region.apart region.no_siblings);
+  region = λ a region.
+      subst (λ l. IsPermutation l a) (sym (twice decide a region.valid))
+      (reordered a region.valid region.apart region.no_siblings);
 }
 
 -- ---- coverage at one resolution
 
-module _ (tree : CellsFormTrees) (a b : List Address) (q r : ℕ) (fine : q ≤ 15) (aq : finest a ≤ q) (br : finest b ≤ r) (h : (x : Address) → IsCovered a q x → IsCovered b q x) where
+module _ (tree : CellsFormTrees) (a b : List Address) (q r : ℕ) (fine : q ≤ 15) (aq : finest a ≤ q) (br : finest b ≤ r)
+    (h : (x : Address) → IsCovered a q x → IsCovered b q x) where
   carried : (x : Address) → IsCovered a r x → IsCovered b r x
   carried x c =
       elim (cases_lt r q) [
         | inl lt ↦
             let down = tree.center_descendant x q c.below.valid (omega (arith, c.below.resolution_is, lt)) fine in
-            let k = h (center_descendant x q) (record { by = c.by; member = c.member; below = record { valid = down.valid; resolution_is = down.resolution_is; under = tree.through c.by x (center_descendant x q) c.below.under down.under } }) in
-            let le : resolution k.by ≤ resolution x = omega (arith, finest_at b k.by k.member, br, c.below.resolution_is) in
-            record { by = k.by; member = k.member; below = record { valid = c.below.valid; resolution_is = c.below.resolution_is; under = tree.ordered k.by x (center_descendant x q) k.below.under down.under le } }
+            let k =
+            h (center_descendant x q) (record {
+              by = c.by;
+              member = c.member;
+              below = record {
+                valid = down.valid;
+                resolution_is = down.resolution_is;
+                under = tree.through c.by x (center_descendant x q) c.below.under down.under;
+              };
+            }) in
+            let le : resolution k.by ≤ resolution x =
+            omega (arith, finest_at b k.by k.member, br, c.below.resolution_is) in
+            record {
+              by = k.by;
+              member = k.member;
+              below = record {
+                valid = c.below.valid;
+                resolution_is = c.below.resolution_is;
+                under = tree.ordered k.by x (center_descendant x q) k.below.under down.under le;
+              };
+            }
         | inr not ↦
             let size : q ≤ resolution x = omega (arith, not, c.below.resolution_is) in
             let over = tree.cut_ancestor x q size in
             let level = tree.resolution-ancestor_at x q size in
-            let coarse : resolution c.by ≤ resolution (ancestor_at x q) = omega (arith, finest_at a c.by c.member, aq, level) in
-            let k = h (ancestor_at x q) (record { by = c.by; member = c.member; below = record { valid = tree.cut_cell x q c.below.valid size; resolution_is = level; under = tree.ordered c.by (ancestor_at x q) x c.below.under over coarse } }) in
-            record { by = k.by; member = k.member; below = record { valid = c.below.valid; resolution_is = c.below.resolution_is; under = tree.through k.by (ancestor_at x q) x k.below.under over } }
+            let coarse : resolution c.by ≤ resolution (ancestor_at x q) =
+            omega (arith, finest_at a c.by c.member, aq, level) in
+            let k =
+            h (ancestor_at x q) (record {
+              by = c.by;
+              member = c.member;
+              below = record {
+                valid = tree.cut_cell x q c.below.valid size;
+                resolution_is = level;
+                under = tree.ordered c.by (ancestor_at x q) x c.below.under over coarse;
+              };
+            }) in
+            record {
+              by = k.by;
+              member = k.member;
+              below = record {
+                valid = c.below.valid;
+                resolution_is = c.below.resolution_is;
+                under = tree.through k.by (ancestor_at x q) x k.below.under over;
+              };
+            }
       ]
 
 pub at_one_resolution : CellsFormTrees → CoverageAtOneResolution

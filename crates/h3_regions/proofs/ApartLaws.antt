@@ -42,8 +42,12 @@ module _ (areas : List (Address × ℕ)) (cells : List Address) (table : IsApart
   pub zones : IsZones cells
   zones = record {
     valid = λ i d lt. rw (at i d (d, 0) lt) (table.outer.valid i (d, 0) (omega (arith, lt, same_size)));
-    in_order = λ i j d lt lj. rw (at i d (d, 0) (omega (arith, lt, lj)), at j d (d, 0) lj) (table.outer.in_order i j (d, 0) lt (omega (arith, lj, same_size)));
-    apart = λ i j d lt lj. rw (at i d (d, 0) (omega (arith, lt, lj)), at j d (d, 0) lj) (table.outer.apart i j (d, 0) lt (omega (arith, lj, same_size)));
+    in_order = λ i j d lt lj.
+        rw (at i d (d, 0) (omega (arith, lt, lj)), at j d (d, 0) lj)
+        (table.outer.in_order i j (d, 0) lt (omega (arith, lj, same_size)));
+    apart = λ i j d lt lj.
+        rw (at i d (d, 0) (omega (arith, lt, lj)), at j d (d, 0) lj)
+        (table.outer.apart i j (d, 0) lt (omega (arith, lj, same_size)));
   }
 
   pub cell_of : (c : Address) (n : ℕ) → Contains areas (c, n) → Contains cells c
@@ -58,7 +62,11 @@ module _ (areas : List (Address × ℕ)) (cells : List Address) (table : IsApart
     lies_there d =
         let la : place < length areas = omega (arith, lt, same_size) in
         let cell : (get_or areas place d).0 ≡ z = sym (at place z d lt) ∙ is in
-        record { by = (get_or areas place d).0; member = Contains-get_or areas place d la; above = subst (λ c. IsAncestor c x) (sym cell) over }
+        record {
+          by = (get_or areas place d).0;
+          member = Contains-get_or areas place d la;
+          above = subst (λ c. IsAncestor c x) (sym cell) over;
+        }
 
     pub one_there : (d : Address × ℕ) (n : ℕ) → ((y : Address) → Contains cells y → IsAncestor y x → Some z ≡ Some y)
         → LiesIn areas x n → (get_or areas place d).1 ≡ n

@@ -88,7 +88,8 @@ module _ (found : AncestorsAreFound) (areas : List (Address × ℕ)) (cells : Li
         ];
         others =
             inv.others
-            ∙ sym (no_more (λ y. not (is_covered (map (λ p. p.0) areas) y)) (ap not (area_covers found areas x n lies)));
+            ∙ sym
+            (no_more (λ y. not (is_covered (map (λ p. p.0) areas) y)) (ap not (area_covers found areas x n lies)));
         total = omega (arith, inv.total, sum_by-set (λ v. v) counts n (get_or counts n 0 + 1) 0 room);
       }
 

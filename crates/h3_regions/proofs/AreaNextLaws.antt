@@ -41,10 +41,13 @@ module _ (found : AncestorsAreFound) (areas : List (Address × ℕ)) (counts : L
       → AreAreaCounts areas (cells ++ x ∷ []) (set counts n (get_or counts n 0 + 1)) none
   one_in_area n lt lies one cells h =
       ended areas cells x _ (length counts) _
-      (counted found areas (cells ++ x ∷ []) (length counts) counts none (length cells) x (omega (arith, length-append cells (x ∷ []))) (at_end cells x) (begun areas cells (x ∷ []) counts none h) n lt lies one)
+      (counted found areas (cells ++ x ∷ []) (length counts) counts none (length cells) x
+      (omega (arith, length-append cells (x ∷ []))) (at_end cells x) (begun areas cells (x ∷ []) counts none h) n lt
+      lies one)
 
   pub one_in_none : ((n : ℕ) → ¬ LiesIn areas x n) → (cells : List Address) → AreAreaCounts areas cells counts none
       → AreAreaCounts areas (cells ++ x ∷ []) counts (none + 1)
   one_in_none out cells h =
       ended areas cells x _ (length counts) _
-      (uncounted found areas (cells ++ x ∷ []) (length counts) counts none (length cells) x (omega (arith, length-append cells (x ∷ []))) (at_end cells x) (begun areas cells (x ∷ []) counts none h) out)
+      (uncounted found areas (cells ++ x ∷ []) (length counts) counts none (length cells) x
+      (omega (arith, length-append cells (x ∷ []))) (at_end cells x) (begun areas cells (x ∷ []) counts none h) out)

@@ -46,10 +46,21 @@ module _ (found : AncestorsAreFound) where
         let next : k + 1 ≡ suc k = omega arith in
         elim (cases_Bool (is_covered (map (λ p. p.0) areas) (get_or cells k d))) [
           | inl t ↦
-              let s = some_area areas (get_or cells k d) t in
-              (_, r.1, subst (IsCountingAreas areas cells size _ r.1) next (counted found areas cells size r.0 r.1 k (get_or cells k d) lt (any_default cells k d (get_or cells k d) lt) r.2 s.0 (small s.1.by s.0 s.1.member) s.1 (λ m h. one_at_most tree found areas (get_or cells k d) s.0 m apart s.1 h)))
-          | inr f ↦
-              (r.0, r.1 + 1, subst (IsCountingAreas areas cells size r.0 (r.1 + 1)) next (uncounted found areas cells size r.0 r.1 k (get_or cells k d) lt (any_default cells k d (get_or cells k d) lt) r.2 (not_covered areas (get_or cells k d) f)))
+              let s = some_area areas (get_or cells k d) t in (
+                _,
+                r.1,
+                subst (IsCountingAreas areas cells size _ r.1) next (counted found areas cells size r.0 r.1 k
+                    (get_or cells k d) lt (any_default cells k d (get_or cells k d) lt) r.2 s.0
+                    (small s.1.by s.0 s.1.member) s.1
+                    (λ m h. one_at_most tree found areas (get_or cells k d) s.0 m apart s.1 h)),
+              )
+          | inr f ↦ (
+            r.0,
+            r.1 + 1,
+            subst (IsCountingAreas areas cells size r.0 (r.1 + 1)) next (uncounted found areas cells size r.0 r.1
+                k (get_or cells k d) lt (any_default cells k d (get_or cells k d) lt) r.2
+                (not_covered areas (get_or cells k d) f)),
+          )
         ]
 
   pub add_up : CellsFormTrees → AreaCountsAddUp
@@ -72,7 +83,8 @@ module _ (found : AncestorsAreFound) where
     | inr f ↦ elim (cases_Bool (lies_in areas x n)) [
       | inl t ↦
           absurd
-          (both_ways (lies_in others x n) f ((tested found others x n).1 ((alike x n).0 ((tested found areas x n).0 t))))
+          (both_ways (lies_in others x n) f
+          ((tested found others x n).1 ((alike x n).0 ((tested found areas x n).0 t))))
       | inr g ↦ g ∙ sym f
     ]
   ]
@@ -90,7 +102,8 @@ module _ (found : AncestorsAreFound) where
     | inl t ↦
         let s = some_area areas x t in
         one_area tree found areas x coarse s.0 s.1 (λ n h. one_at_most tree found areas x s.0 n apart s.1 h)
-        ∙ sym (one_area tree found others x coarse s.0 ((alike x s.0).0 s.1) (λ n h. one_at_most tree found others x s.0 n also ((alike x s.0).0 s.1) h))
+        ∙ sym (one_area tree found others x coarse s.0 ((alike x s.0).0 s.1)
+        (λ n h. one_at_most tree found others x s.0 n also ((alike x s.0).0 s.1) h))
     | inr f ↦
         no_area tree found areas x coarse (not_covered areas x f)
         ∙ sym (no_area tree found others x coarse (λ n h. not_covered areas x f n ((alike x n).1 h)))
@@ -98,7 +111,10 @@ module _ (found : AncestorsAreFound) where
 
   pub alike_areas : CellsFormTrees → AlikeAreas
   alike_areas tree = record {
-    counted = λ areas others alike cells n. count_alike (λ x. lies_in areas x n) (λ x. lies_in others x n) cells (λ x. lies_alike areas others alike x n);
-    none = λ areas others alike cells. count_alike (λ x. not (is_covered (map (λ p. p.0) areas) x)) (λ x. not (is_covered (map (λ p. p.0) others) x)) cells (λ x. ap not (covered_alike areas others alike x));
+    counted = λ areas others alike cells n.
+        count_alike (λ x. lies_in areas x n) (λ x. lies_in others x n) cells (λ x. lies_alike areas others alike x n);
+    none = λ areas others alike cells.
+        count_alike (λ x. not (is_covered (map (λ p. p.0) areas) x)) (λ x. not (is_covered (map (λ p. p.0) others) x))
+        cells (λ x. ap not (covered_alike areas others alike x));
     listed = list_alike tree;
   }

@@ -72,12 +72,32 @@ module _ (found : AncestorsAreFound) where
   overlapping_where (p ∷ areas) h = elim (either (list_any (clash p) areas) (has_clash areas) h) [
     | inl here ↦
         let w = Any-from_list_any (clash p) areas here in
-        let two = clash_from p w.1 w.4 in
-        (p.1, w.1.1, record { different = two.0; one = p.0; other = w.1.0; of_one = contains_head p areas; of_other = contains_tail p w.1 areas (w.0, w.2, w.3); overlap = two.1 })
+        let two = clash_from p w.1 w.4 in (
+          p.1,
+          w.1.1,
+          record {
+            different = two.0;
+            one = p.0;
+            other = w.1.0;
+            of_one = contains_head p areas;
+            of_other = contains_tail p w.1 areas (w.0, w.2, w.3);
+            overlap = two.1;
+          },
+        )
     | inr later ↦
         let r = overlapping_where areas later in
-        let o = r.2 in
-        (r.0, r.1, record { different = o.different; one = o.one; other = o.other; of_one = contains_tail p (o.one, r.0) areas o.of_one; of_other = contains_tail p (o.other, r.1) areas o.of_other; overlap = o.overlap })
+        let o = r.2 in (
+          r.0,
+          r.1,
+          record {
+            different = o.different;
+            one = o.one;
+            other = o.other;
+            of_one = contains_tail p (o.one, r.0) areas o.of_one;
+            of_other = contains_tail p (o.other, r.1) areas o.of_other;
+            overlap = o.overlap;
+          },
+        )
   ]
 
   none_here : (p q : Address × ℕ) (areas : List (Address × ℕ)) → list_any (clash p) areas ≡ false → Contains areas q

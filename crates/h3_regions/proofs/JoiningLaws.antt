@@ -9,6 +9,7 @@ pub record IsJoining (zones cells : List Address) (places : List (Option Address
   pub size : length places ≡ length cells
   pub each : (i : ℕ) (d : Address) (e : Option Address) → i < k → get_or places i e ≡ zone_of zones (get_or cells i d)
 
-pub all_joined : (zones cells : List Address) (places : List (Option Address)) (k : ℕ) → length cells ≤ k → IsJoining zones cells places k → places ≡ map (zone_of zones) cells
+pub all_joined : (zones cells : List Address) (places : List (Option Address)) (k : ℕ) → length cells ≤ k
+    → IsJoining zones cells places k → places ≡ map (zone_of zones) cells
 all_joined zones cells places k le inv =
     as_map (zone_of zones) cells places inv.size (λ i d e lt. inv.each i d e (omega (arith, lt, le)))

@@ -15,7 +15,9 @@ use Rattle.h3_regions.proofs.IntervalLaws.{before, within}
 use Rattle.h3_regions.proofs.ListLaws.{any_default, contains_at, contains_front, front_at}
 
 -- the cells that stay do not stand below the one that comes
-pub staying_above : (intervals : CellsFormIntervals) (kept : List Address) (cell x : Address) (n : ℕ) → All IsCell kept → IsInOrder kept → IsCell cell → 0 < n → n ≤ length kept → x ≡ get_or kept (n - 1) x → key x + 8 ^ (15 - resolution cell) ≤ key cell → All (λ a. ¬ IsAncestor cell a) (take n kept)
+pub staying_above : (intervals : CellsFormIntervals) (kept : List Address) (cell x : Address) (n : ℕ) → All IsCell kept
+    → IsInOrder kept → IsCell cell → 0 < n → n ≤ length kept → x ≡ get_or kept (n - 1) x
+    → key x + 8 ^ (15 - resolution cell) ≤ key cell → All (λ a. ¬ IsAncestor cell a) (take n kept)
 staying_above intervals kept cell x n valid order here pos room is far k d lt above =
     let low : k < n = omega (arith, lt, length-take n kept) in
     let inside_it : k < length kept = omega (arith, low, room) in
@@ -43,10 +45,12 @@ pub record IsKeeping (all now : List Address) (i w : ℕ) : Type 0 where
   pub rises : (a b : ℕ) (d : Address) → a < b → b < w → key (get_or now a d) < key (get_or now b d)
   pub apart : (a b : ℕ) (d : Address) → a < b → b < w → ¬ Overlap (get_or now a d) (get_or now b d)
 
-module _ (tree : CellsFormTrees) (intervals : CellsFormIntervals) (all : List Address) (valid : All IsCell all) (order : IsInOrder all) where
+module _ (tree : CellsFormTrees) (intervals : CellsFormIntervals) (all : List Address) (valid : All IsCell all)
+    (order : IsInOrder all) where
   module _ (now : List Address) (i w : ℕ) (inv : IsKeeping all now i w) where
     kept_valid : (k : ℕ) (d : Address) → k < w → IsCell (get_or now k d)
-    kept_valid k d lt = let c = inv.chosen k d lt in subst IsCell (sym c.2) (valid c.0 d (omega (arith, c.1, inv.inside)))
+    kept_valid k d lt =
+        let c = inv.chosen k d lt in subst IsCell (sym c.2) (valid c.0 d (omega (arith, c.1, inv.inside)))
 
     at_front : (k : ℕ) (d : Address) → k < w → get_or (take w now) k d ≡ get_or now k d
     at_front k d lt = get_or-take w now k d lt
@@ -58,7 +62,8 @@ module _ (tree : CellsFormTrees) (intervals : CellsFormIntervals) (all : List Ad
     front_size = omega (arith, length-take w now, room)
 
     pub front_valid : All IsCell (take w now)
-    front_valid k d lt = let l : k < w = omega (arith, lt, front_size) in subst IsCell (sym (at_front k d l)) (kept_valid k d l)
+    front_valid k d lt =
+        let l : k < w = omega (arith, lt, front_size) in subst IsCell (sym (at_front k d l)) (kept_valid k d l)
 
     pub front_order : IsInOrder (take w now)
     front_order a b d lt lb =
@@ -83,20 +88,23 @@ module _ (tree : CellsFormTrees) (intervals : CellsFormIntervals) (all : List Ad
       pub front_low : All (λ a. key a ≤ key cell) (take w now)
       front_low k d l = let lw : k < w = omega (arith, l, front_size) in rw (at_front k d lw) (low k d lw)
 
-      module _ (s : ℕ) (fewer : s ≤ length (take w now)) (stay : All (λ a. ¬ IsAncestor cell a) (take s (take w now))) (below : All (IsAncestor cell) (drop s (take w now))) where
+      module _ (s : ℕ) (fewer : s ≤ length (take w now)) (stay : All (λ a. ¬ IsAncestor cell a) (take s (take w now)))
+          (below : All (IsAncestor cell) (drop s (take w now))) where
         le : s ≤ w
         le = omega (arith, fewer, front_size)
 
         stays : (k : ℕ) (d : Address) → k < s → ¬ IsAncestor cell (get_or now k d)
         stays k d l =
             let lw : k < w = omega (arith, l, le) in
-            let e : get_or (take s (take w now)) k d ≡ get_or now k d = get_or-take s (take w now) k d l ∙ at_front k d lw in
+            let e : get_or (take s (take w now)) k d ≡ get_or now k d =
+            get_or-take s (take w now) k d l ∙ at_front k d lw in
             subst (λ a. ¬ IsAncestor cell a) e (stay k d (omega (arith, l, length-take s (take w now), fewer)))
 
         goes : (k : ℕ) (d : Address) → s ≤ k → k < w → IsAncestor cell (get_or now k d)
         goes k d l lw =
             let back : s + (k - s) ≡ k = omega (arith, l) in
-            let e : get_or (drop s (take w now)) (k - s) d ≡ get_or now k d = get_or-drop s (take w now) (k - s) d ∙ ap (λ j. get_or (take w now) j d) back ∙ at_front k d lw in
+            let e : get_or (drop s (take w now)) (k - s) d ≡ get_or now k d =
+            get_or-drop s (take w now) (k - s) d ∙ ap (λ j. get_or (take w now) j d) back ∙ at_front k d lw in
             subst (IsAncestor cell) e (below (k - s) d (omega (arith, l, lw, length-drop s (take w now), front_size)))
 
         inside_now : s < length now
@@ -109,38 +117,61 @@ module _ (tree : CellsFormTrees) (intervals : CellsFormIntervals) (all : List Ad
         last d = get_or-set_same now s cell d inside_now
 
         far : (k : ℕ) (d : Address) → k < s → key (get_or now k d) + 8 ^ (15 - resolution cell) ≤ key cell
-        far k d l = let lw : k < w = omega (arith, l, le) in before intervals cell (get_or now k d) cell_valid (kept_valid k d lw) (low k d lw) (stays k d l)
+        far k d l =
+            let lw : k < w = omega (arith, l, le) in
+            before intervals cell (get_or now k d) cell_valid (kept_valid k d lw) (low k d lw) (stays k d l)
 
         some : 1 ≤ 8 ^ (15 - resolution cell)
         some = one-le-pow (15 - resolution cell) 8 (omega arith)
 
-        chosen : (k : ℕ) (d : Address) → k < s + 1 → (j : ℕ) × (j < i + 1) × (get_or (set now s cell) k d ≡ get_or all j d)
+        chosen : (k : ℕ) (d : Address) → k < s + 1
+            → (j : ℕ) × (j < i + 1) × (get_or (set now s cell) k d ≡ get_or all j d)
         chosen k d l =
             elim (cases_lt k s) [
-              | inl less ↦ let c = inv.chosen k d (omega (arith, less, le)) in (c.0, omega (arith, c.1), first k d less ∙ c.2)
-              | inr not ↦ let e : k ≡ s = omega (arith, l, not) in (i, omega arith, ap (λ j. get_or (set now s cell) j d) e ∙ last d ∙ sym (here d))
+              | inl less ↦
+                  let c = inv.chosen k d (omega (arith, less, le)) in (c.0, omega (arith, c.1), first k d less ∙ c.2)
+              | inr not ↦
+                  let e : k ≡ s = omega (arith, l, not) in
+                  (i, omega arith, ap (λ j. get_or (set now s cell) j d) e ∙ last d ∙ sym (here d))
             ]
 
-        above : (j : ℕ) (d : Address) → j < i + 1 → (k : ℕ) × (k < s + 1) × IsAncestor (get_or (set now s cell) k d) (get_or all j d)
+        above : (j : ℕ) (d : Address) → j < i + 1
+            → (k : ℕ) × (k < s + 1) × IsAncestor (get_or (set now s cell) k d) (get_or all j d)
         above j d l =
             elim (cases_lt j i) [
               | inl less ↦
                   let a = inv.above j d less in
                   elim (cases_lt a.0 s) [
-                    | inl stay_it ↦ (a.0, omega (arith, stay_it), subst (λ v. IsAncestor v (get_or all j d)) (sym (first a.0 d stay_it)) a.2)
-                    | inr go ↦ (s, omega arith, subst (λ v. IsAncestor v (get_or all j d)) (sym (last d)) (tree.through cell (get_or now a.0 d) (get_or all j d) (goes a.0 d go a.1) a.2))
+                    | inl stay_it ↦ (
+                      a.0,
+                      omega (arith, stay_it),
+                      subst (λ v. IsAncestor v (get_or all j d)) (sym (first a.0 d stay_it)) a.2,
+                    )
+                    | inr go ↦ (
+                      s,
+                      omega arith,
+                      subst (λ v. IsAncestor v (get_or all j d)) (sym (last d))
+                          (tree.through cell (get_or now a.0 d) (get_or all j d) (goes a.0 d go a.1) a.2),
+                    )
                   ]
               | inr not ↦
-                  let e : i ≡ j = omega (arith, l, not) in
-                  (s, omega arith, subst (λ v. IsAncestor v (get_or all j d)) (sym (last d)) (subst (IsAncestor cell) (sym (here d) ∙ ap (λ k. get_or all k d) e) (tree.own cell)))
+                  let e : i ≡ j = omega (arith, l, not) in (
+                    s,
+                    omega arith,
+                    subst (λ v. IsAncestor v (get_or all j d)) (sym (last d))
+                        (subst (IsAncestor cell) (sym (here d) ∙ ap (λ k. get_or all k d) e) (tree.own cell)),
+                  )
             ]
 
-        rises : (a b : ℕ) (d : Address) → a < b → b < s + 1 → key (get_or (set now s cell) a d) < key (get_or (set now s cell) b d)
+        rises : (a b : ℕ) (d : Address) → a < b → b < s + 1
+            → key (get_or (set now s cell) a d) < key (get_or (set now s cell) b d)
         rises a b d l lb =
             let la : a < s = omega (arith, l, lb) in
             elim (cases_lt b s) [
               | inl less ↦ rw (first a d la, first b d less) (inv.rises a b d l (omega (arith, less, le)))
-              | inr not ↦ let e : b ≡ s = omega (arith, lb, not) in let f = far a d la in rw (first a d la, e, last d) (omega (arith, f, some))
+              | inr not ↦
+                  let e : b ≡ s = omega (arith, lb, not) in
+                  let f = far a d la in rw (first a d la, e, last d) (omega (arith, f, some))
             ]
 
         apart_last : (a : ℕ) (d : Address) → a < s → ¬ Overlap (get_or now a d) cell
@@ -148,11 +179,14 @@ module _ (tree : CellsFormTrees) (intervals : CellsFormIntervals) (all : List Ad
             let lw : a < w = omega (arith, la, le) in
             let f = far a d la in
             elim o [
-              | inl over ↦ let v = within intervals (get_or now a d) cell (kept_valid a d lw) cell_valid over in omega (arith, v.0, f, some)
+              | inl over ↦
+                  let v = within intervals (get_or now a d) cell (kept_valid a d lw) cell_valid over in
+                  omega (arith, v.0, f, some)
               | inr under ↦ stays a d la under
             ]
 
-        apart : (a b : ℕ) (d : Address) → a < b → b < s + 1 → ¬ Overlap (get_or (set now s cell) a d) (get_or (set now s cell) b d)
+        apart : (a b : ℕ) (d : Address) → a < b → b < s + 1
+            → ¬ Overlap (get_or (set now s cell) a d) (get_or (set now s cell) b d)
         apart a b d l lb =
             let la : a < s = omega (arith, l, lb) in
             elim (cases_lt b s) [
@@ -166,7 +200,9 @@ module _ (tree : CellsFormTrees) (intervals : CellsFormIntervals) (all : List Ad
               size = length-set now s cell ∙ inv.size;
               inside = omega (arith, lt, inv.size);
               behind = omega (arith, le, inv.behind);
-              rest = λ j d more l. get_or-set_other now s j cell d (omega (arith, more, le, inv.behind)) ∙ inv.rest j d (omega (arith, more)) l;
+              rest = λ j d more l.
+                  get_or-set_other now s j cell d (omega (arith, more, le, inv.behind))
+                  ∙ inv.rest j d (omega (arith, more)) l;
               chosen = chosen;
               above = above;
               rises = rises;
@@ -177,8 +213,17 @@ module _ (tree : CellsFormTrees) (intervals : CellsFormIntervals) (all : List Ad
     pub coarsest : IsCoarsest (take w now) all
     coarsest =
         record {
-          chosen = λ x m. (let f = front_at now w x x m in let c = inv.chosen f.0 x f.1 in contains_at all c.0 x x c.1 (sym c.2 ∙ f.3));
+          chosen = λ x m.
+              (let f = front_at now w x x m in
+              let c = inv.chosen f.0 x f.1 in contains_at all c.0 x x c.1 (sym c.2 ∙ f.3));
           all = λ x m. (let a = inv.above m.0 x m.1 in
-              record { by = get_or now a.0 x; member = contains_front now w a.0 x (get_or now a.0 x) a.1 (omega (arith, a.1, inv.size, inv.behind)) refl; above = subst (IsAncestor (get_or now a.0 x)) m.2 a.2 });
-          apart = λ a b d l lb. (let lw : b < w = omega (arith, lb, length-take w now) in rw (get_or-take w now a d (omega (arith, l, lw)), get_or-take w now b d lw) (inv.apart a b d l lw));
+              record {
+                by = get_or now a.0 x;
+                member =
+                    contains_front now w a.0 x (get_or now a.0 x) a.1 (omega (arith, a.1, inv.size, inv.behind)) refl;
+                above = subst (IsAncestor (get_or now a.0 x)) m.2 a.2;
+              });
+          apart = λ a b d l lb.
+              (let lw : b < w = omega (arith, lb, length-take w now) in
+              rw (get_or-take w now a d (omega (arith, l, lw)), get_or-take w now b d lw) (inv.apart a b d l lw));
         }

@@ -30,7 +30,8 @@ finest_at (x ∷ cells) c m =
     ]
 
 module _ (R : Address → Address → Type 0) where
-  pairs_cons : (x : Address) (xs : List Address) → ((y : Address) → Contains xs y → R x y) → AllPairs R xs → AllPairs R (x ∷ xs)
+  pairs_cons : (x : Address) (xs : List Address) → ((y : Address) → Contains xs y → R x y) → AllPairs R xs
+      → AllPairs R (x ∷ xs)
   pairs_cons x xs new h i zero d lt lj = absurd (omega (arith, lt))
   pairs_cons x xs new h zero (suc j) d lt lj = new (get_or xs j d) (Contains-get_or xs j d (omega (arith, lj)))
   pairs_cons x xs new h (suc i) (suc j) d lt lj = h i j d (omega (arith, lt)) (omega (arith, lj))
@@ -41,11 +42,14 @@ module _ (R : Address → Address → Type 0) where
   pub pairs_tail : (x : Address) (xs : List Address) → AllPairs R (x ∷ xs) → AllPairs R xs
   pairs_tail x xs h i j d lt lj = h (suc i) (suc j) d (omega (arith, lt)) (omega (arith, lj))
 
-  pairs_append : (xs ys : List Address) → AllPairs R xs → AllPairs R ys → ((x y : Address) → Contains xs x → Contains ys y → R x y) → AllPairs R (xs ++ ys)
+  pairs_append : (xs ys : List Address) → AllPairs R xs → AllPairs R ys
+      → ((x y : Address) → Contains xs x → Contains ys y → R x y) → AllPairs R (xs ++ ys)
   pairs_append [] ys p q out = q
   pairs_append (x ∷ xs) ys p q out =
       pairs_cons x (xs ++ ys)
-      (λ y m. elim (Contains-append_cases xs ys y m) [ inl n ↦ pairs_head x xs p y n | inr n ↦ out x y (contains_head x xs) n ])
+      (λ y m.
+      elim (Contains-append_cases xs ys y m)
+      [ inl n ↦ pairs_head x xs p y n | inr n ↦ out x y (contains_head x xs) n ])
       (pairs_append xs ys (pairs_tail x xs p) q (λ a b m n. out a b (contains_tail x a xs m) n))
 
 -- x comes before y, and they do not overlap
@@ -62,11 +66,13 @@ pub record IsClear (others : List Address) (c : Address) (pieces : List Address)
 pub data IsCase (others : List Address) (n : ℕ) (c : Address) : Type 0 where
   gone : is_covered others c ≡ true → left_of others n c ≡ [] → IsCase others n c
   whole : is_covered others c ≡ false → has_below others c ≡ false → left_of others n c ≡ c ∷ [] → IsCase others n c
-  split : (m : ℕ) → is_covered others c ≡ false → has_below others c ≡ true → n ≡ suc m → resolution c < 15 → left_of others n c ≡ flat_map (left_of others m) (children c) → IsCase others n c
+  split : (m : ℕ) → is_covered others c ≡ false → has_below others c ≡ true → n ≡ suc m → resolution c < 15
+      → left_of others n c ≡ flat_map (left_of others m) (children c) → IsCase others n c
 
 module _ (tree : CellsFormTrees) (intervals : CellsFormIntervals) where
   -- cells below cells of which the one comes before the other
-  across : (c d x y : Address) → IsCell c → IsCell d → IsCell x → IsCell y → IsBefore c d → IsAncestor c x → IsAncestor d y → IsBefore x y
+  across : (c d x y : Address) → IsCell c → IsCell d → IsCell x → IsCell y → IsBefore c d → IsAncestor c x
+      → IsAncestor d y → IsBefore x y
   across c d x y hc hd hx hy b above over =
       let wx = within intervals c x hc hx above in
       let wy = within intervals d y hd hy over in
@@ -77,13 +83,16 @@ module _ (tree : CellsFormTrees) (intervals : CellsFormIntervals) where
       ]) in
       (omega (arith, wx.0, wy.1, far), apart)
 
-  spread : (others : List Address) (f : Address → List Address) (cs : List Address) → All IsCell cs → AllPairs IsBefore cs → ((c : Address) → Contains cs c → IsClear others c (f c)) → AllPairs IsBefore (flat_map f cs)
+  spread : (others : List Address) (f : Address → List Address) (cs : List Address) → All IsCell cs
+      → AllPairs IsBefore cs → ((c : Address) → Contains cs c → IsClear others c (f c))
+      → AllPairs IsBefore (flat_map f cs)
   spread others f [] valid order each = λ i j d lt lj. absurd (omega (arith, lj))
   spread others f (c ∷ cs) valid order each =
       let here = each c (contains_head c cs) in
       let hc = All-contains IsCell (c ∷ cs) c valid (contains_head c cs) in
       pairs_append IsBefore (f c) (flat_map f cs) here.ordered
-      (spread others f cs (λ k d lt. valid (suc k) d (omega (arith, lt))) (pairs_tail IsBefore c cs order) (λ b m. each b (contains_tail c b cs m)))
+      (spread others f cs (λ k d lt. valid (suc k) d (omega (arith, lt))) (pairs_tail IsBefore c cs order)
+      (λ b m. each b (contains_tail c b cs m)))
       (λ x y m n.
       let w = from_flat f cs y n in
       let hw = All-contains IsCell (c ∷ cs) w.0 valid (contains_tail c w.0 cs w.1) in
@@ -112,20 +121,38 @@ module _ (tree : CellsFormTrees) (intervals : CellsFormIntervals) where
         let up = tree.ascending c (resolution c + 1) i j d lt lj in
         let apart : ¬ Overlap (get_or (children c) i d) (get_or (children c) j d) = λ o.
         let same : get_or (children c) i d ≡ get_or (children c) j d = elim o [
-          | inl above ↦ sym (tree.same (get_or (children c) i d) (get_or (children c) j d) above (omega (arith, bx.resolution_is, by_y.resolution_is)))
-          | inr above ↦ tree.same (get_or (children c) j d) (get_or (children c) i d) above (omega (arith, bx.resolution_is, by_y.resolution_is))
+          | inl above ↦
+              sym (tree.same (get_or (children c) i d) (get_or (children c) j d) above
+              (omega (arith, bx.resolution_is, by_y.resolution_is)))
+          | inr above ↦
+              tree.same (get_or (children c) j d) (get_or (children c) i d) above
+              (omega (arith, bx.resolution_is, by_y.resolution_is))
         ] in
-        absurd (omega (arith, up, ap number_of same)) in
-        (omega (arith, up, intervals.number (get_or (children c) i d) bx.valid, intervals.number (get_or (children c) j d) by_y.valid, bx.resolution_is, by_y.resolution_is), apart)
+        absurd (omega (arith, up, ap number_of same)) in (
+          omega (
+            arith,
+            up,
+            intervals.number (get_or (children c) i d) bx.valid,
+            intervals.number (get_or (children c) j d) by_y.valid,
+            bx.resolution_is,
+            by_y.resolution_is,
+          ),
+          apart,
+        )
 
   module _ (found : AncestorsAreFound) (others : List Address) (ro : IsRegion others) where
     -- ---- what is left of one cell
 
     no_pieces : (c : Address) → IsClear others c []
     no_pieces c =
-        record { under = λ x m. absurd (omega (arith, m.1)); clear = λ x m o k. absurd (omega (arith, m.1)); ordered = λ i j d lt lj. absurd (omega (arith, lj)) }
+        record {
+          under = λ x m. absurd (omega (arith, m.1));
+          clear = λ x m o k. absurd (omega (arith, m.1));
+          ordered = λ i j d lt lj. absurd (omega (arith, lj));
+        }
 
-    one_piece : (c : Address) → IsCell c → is_covered others c ≡ false → has_below others c ≡ false → IsClear others c (c ∷ [])
+    one_piece : (c : Address) → IsCell c → is_covered others c ≡ false → has_below others c ≡ false
+        → IsClear others c (c ∷ [])
     one_piece c valid e f =
         record {
           under = λ x m. (let s = only x m in (subst IsCell s valid, subst (IsAncestor c) s (tree.own c)));
@@ -152,7 +179,9 @@ module _ (tree : CellsFormTrees) (intervals : CellsFormIntervals) where
           ]
         ]
 
-    from_children : (n : ℕ) (c : Address) → IsCell c → resolution c < 15 → ((k : Address) → IsChild c k → IsClear others k (left_of others n k)) → IsClear others c (flat_map (left_of others n) (children c))
+    from_children : (n : ℕ) (c : Address) → IsCell c → resolution c < 15
+        → ((k : Address) → IsChild c k → IsClear others k (left_of others n k))
+        → IsClear others c (flat_map (left_of others n) (children c))
     from_children n c valid coarse each =
         record {
           under = λ x m. (
@@ -163,7 +192,9 @@ module _ (tree : CellsFormTrees) (intervals : CellsFormIntervals) where
           clear = λ x m. (
               let w = from_flat (left_of others n) (children c) x m in
               (each w.0 (child_of c valid coarse w.0 w.1)).clear x w.2);
-          ordered = spread others (left_of others n) (children c) (children_valid c valid coarse) (children_ordered c valid coarse) (λ k m. each k (child_of c valid coarse k m));
+          ordered =
+              spread others (left_of others n) (children c) (children_valid c valid coarse)
+              (children_ordered c valid coarse) (λ k m. each k (child_of c valid coarse k m));
         }
 
     pub pieces : (n : ℕ) (c : Address) → n + resolution c ≡ 15 → IsCell c → IsClear others c (left_of others n c)
@@ -180,11 +211,14 @@ module _ (tree : CellsFormTrees) (intervals : CellsFormIntervals) where
           | split m f g down coarse e ↦
               let same : m ≡ n = omega (arith, down) in
               let is : left_of others (suc n) c ≡ flat_map (left_of others n) (children c) = rw same at e in
-              subst (IsClear others c) (sym is) (from_children n c valid coarse (λ k b. pieces n k (omega (arith, level, b.resolution_is)) b.valid))
+              subst (IsClear others c) (sym is)
+              (from_children n c valid coarse (λ k b. pieces n k (omega (arith, level, b.resolution_is)) b.valid))
         ]
 
     -- a piece is the cell, or has a parent with others below it
-    pub parent_split : (n : ℕ) (c : Address) → n + resolution c ≡ 15 → IsCell c → (x p : Address) → Contains (left_of others n c) x → IsAncestor c p → IsChild p x → (o : Address) × Contains others o × IsAncestor p o
+    pub parent_split : (n : ℕ) (c : Address) → n + resolution c ≡ 15 → IsCell c → (x p : Address)
+        → Contains (left_of others n c) x → IsAncestor c p → IsChild p x
+        → (o : Address) × Contains others o × IsAncestor p o
     parent_split zero c level valid x p m above k =
         elim (which zero c level valid) [
           | gone t e ↦ absurd (none (subst (λ l. Contains l x) e m))
@@ -215,9 +249,11 @@ module _ (tree : CellsFormTrees) (intervals : CellsFormIntervals) where
               elim (up_or_same tree w.0 x p u.1 k) [
                 | inl over ↦ parent_split n w.0 deep b.valid x p w.2 over k
                 | inr one ↦
-                    let same_level : resolution p ≡ resolution c = omega (arith, k.resolution_is, b.resolution_is, ap (λ v. resolution v) one) in
+                    let same_level : resolution p ≡ resolution c =
+                    omega (arith, k.resolution_is, b.resolution_is, ap (λ v. resolution v) one) in
                     let is_c : p ≡ c = tree.same c p above (omega (arith, same_level)) in
-                    subst (λ v. (o : Address) × Contains others o × IsAncestor v o) (sym is_c) (from_below found others c g)
+                    subst (λ v. (o : Address) × Contains others o × IsAncestor v o) (sym is_c)
+                    (from_below found others c g)
               ]
         ]
       where
@@ -244,44 +280,79 @@ module _ (tree : CellsFormTrees) (intervals : CellsFormIntervals) where
                 absurd (none_covered found others c f w.0 w.1 (subst (λ a. IsAncestor a c) (sym same) (tree.own c)))
           ]
 
-      pub covers_rest : (n : ℕ) (c : Address) → n + resolution c ≡ 15 → IsCell c → (y : Address) → IsDescendant c r y → (¬ IsCovered others r y) → IsCovered (left_of others n c) r y
+      pub covers_rest : (n : ℕ) (c : Address) → n + resolution c ≡ 15 → IsCell c → (y : Address) → IsDescendant c r y
+          → (¬ IsCovered others r y) → IsCovered (left_of others n c) r y
       covers_rest zero c level valid y b out =
           elim (which zero c level valid) [
             | gone t e ↦ absurd (out_of t)
-            | whole f g e ↦ subst (λ l. IsCovered l r y) (sym e) (record { by = c; member = contains_head c []; below = b })
+            | whole f g e ↦
+                subst (λ l. IsCovered l r y) (sym e) (record { by = c; member = contains_head c []; below = b })
             | split m f g down coarse e ↦ absurd (omega (arith, down))
           ]
         where
           out_of : is_covered others c ≡ true → ⊥
           out_of t =
               let h = from_covered found others c t in
-              out (record { by = h.by; member = h.member; below = record { valid = b.valid; resolution_is = b.resolution_is; under = tree.through h.by c y h.above b.under } })
+              out (record {
+                by = h.by;
+                member = h.member;
+                below = record {
+                  valid = b.valid;
+                  resolution_is = b.resolution_is;
+                  under = tree.through h.by c y h.above b.under;
+                };
+              })
       covers_rest (suc n) c level valid y b out =
           elim (which (suc n) c level valid) [
             | gone t e ↦ absurd (out_of t)
-            | whole f g e ↦ subst (λ l. IsCovered l r y) (sym e) (record { by = c; member = contains_head c []; below = b })
+            | whole f g e ↦
+                subst (λ l. IsCovered l r y) (sym e) (record { by = c; member = contains_head c []; below = b })
             | split m f g down coarse e ↦
                 let same : m ≡ n = omega (arith, down) in
                 let is : left_of others (suc n) c ≡ flat_map (left_of others n) (children c) = rw same at e in
                 let lt = deeper c valid f g in
                 let k = step_down c y b lt in
-                let rest = covers_rest n (ancestor_at y (resolution c + 1)) (omega (arith, level, k.resolution_is)) k.valid y (record { valid = b.valid; resolution_is = b.resolution_is; under = tree.cut_ancestor y (resolution c + 1) (omega (arith, lt, b.resolution_is)) }) out in
-                subst (λ l. IsCovered l r y) (sym is) (record { by = rest.by; member = in_flat (left_of others n) (children c) (ancestor_at y (resolution c + 1)) rest.by (of_child c valid coarse (ancestor_at y (resolution c + 1)) k) rest.member; below = rest.below })
+                let rest =
+                covers_rest n (ancestor_at y (resolution c + 1)) (omega (arith, level, k.resolution_is)) k.valid y
+                (record {
+                  valid = b.valid;
+                  resolution_is = b.resolution_is;
+                  under = tree.cut_ancestor y (resolution c + 1) (omega (arith, lt, b.resolution_is));
+                })
+                out in
+                subst (λ l. IsCovered l r y) (sym is) (record {
+                  by = rest.by;
+                  member =
+                      in_flat (left_of others n) (children c) (ancestor_at y (resolution c + 1)) rest.by
+                      (of_child c valid coarse (ancestor_at y (resolution c + 1)) k) rest.member;
+                  below = rest.below;
+                })
           ]
         where
           out_of : is_covered others c ≡ true → ⊥
           out_of t =
               let h = from_covered found others c t in
-              out (record { by = h.by; member = h.member; below = record { valid = b.valid; resolution_is = b.resolution_is; under = tree.through h.by c y h.above b.under } })
+              out (record {
+                by = h.by;
+                member = h.member;
+                below = record {
+                  valid = b.valid;
+                  resolution_is = b.resolution_is;
+                  under = tree.through h.by c y h.above b.under;
+                };
+              })
 
-          step_down : (c y : Address) → IsDescendant c r y → resolution c < r → IsChild c (ancestor_at y (resolution c + 1))
+          step_down : (c y : Address) → IsDescendant c r y → resolution c < r
+              → IsChild c (ancestor_at y (resolution c + 1))
           step_down c y h lt =
               let le : resolution c + 1 ≤ resolution y = omega (arith, lt, h.resolution_is) in
               let size = tree.resolution-ancestor_at y (resolution c + 1) le in
               record {
                 valid = tree.cut_cell y (resolution c + 1) h.valid le;
                 resolution_is = size;
-                under = tree.ordered c (ancestor_at y (resolution c + 1)) y h.under (tree.cut_ancestor y (resolution c + 1) le) (omega (arith, size));
+                under =
+                    tree.ordered c (ancestor_at y (resolution c + 1)) y h.under
+                    (tree.cut_ancestor y (resolution c + 1) le) (omega (arith, size));
               }
 
     -- ---- what is left of a region
@@ -299,11 +370,13 @@ module _ (tree : CellsFormTrees) (intervals : CellsFormIntervals) where
       clear_of : (c : Address) → Contains cells c → IsClear others c (left_of others (15 - resolution c) c)
       clear_of c m = pieces (15 - resolution c) c (level_of c m) (member_valid c m)
 
-      from_rest : (x : Address) → Contains (left_of_all cells others) x → (c : Address) × Contains cells c × Contains (left_of others (15 - resolution c) c) x
+      from_rest : (x : Address) → Contains (left_of_all cells others) x
+          → (c : Address) × Contains cells c × Contains (left_of others (15 - resolution c) c) x
       unfolding left_of_all
       from_rest x m = from_flat (λ c. left_of others (15 - resolution c) c) cells x m
 
-      in_rest : (c x : Address) → Contains cells c → Contains (left_of others (15 - resolution c) c) x → Contains (left_of_all cells others) x
+      in_rest : (c x : Address) → Contains cells c → Contains (left_of others (15 - resolution c) c) x
+          → Contains (left_of_all cells others) x
       unfolding left_of_all
       in_rest c x m n = in_flat (λ c. left_of others (15 - resolution c) c) cells c x m n
 
@@ -314,13 +387,15 @@ module _ (tree : CellsFormTrees) (intervals : CellsFormIntervals) where
       unfolding left_of_all
       rest_ordered = spread others (λ c. left_of others (15 - resolution c) c) cells rc.valid cells_ordered clear_of
 
-      rest_clear : (x : Address) → Contains (left_of_all cells others) x → (o : Address) → Contains others o → ¬ Overlap x o
+      rest_clear : (x : Address) → Contains (left_of_all cells others) x → (o : Address) → Contains others o
+          → ¬ Overlap x o
       rest_clear x m = let w = from_rest x m in (clear_of w.0 w.1).clear x w.2
 
       -- no complete set of siblings is left
       module _ (p : Address) (h : HasChildren (Contains (left_of_all cells others)) p) where
         -- a cell that stands above p was not divided there
-        not_above : (c x : Address) → Contains cells c → Contains (left_of others (15 - resolution c) c) x → IsChild p x → ¬ IsAncestor c p
+        not_above : (c x : Address) → Contains cells c → Contains (left_of others (15 - resolution c) c) x → IsChild p x
+            → ¬ IsAncestor c p
         not_above c x m n k above =
             let w = parent_split (15 - resolution c) c (level_of c m) (member_valid c m) x p n above k in
             let o_valid = All-contains IsCell others w.0 ro.valid w.1 in
@@ -331,8 +406,13 @@ module _ (tree : CellsFormTrees) (intervals : CellsFormIntervals) where
                   let size : resolution p + 1 ≤ resolution w.0 = omega (arith, lt) in
                   let level = tree.resolution-ancestor_at w.0 (resolution p + 1) size in
                   let over = tree.cut_ancestor w.0 (resolution p + 1) size in
-                  let kid : IsChild p (ancestor_at w.0 (resolution p + 1)) = record { valid = tree.cut_cell w.0 (resolution p + 1) o_valid size; resolution_is = level; under = tree.ordered p (ancestor_at w.0 (resolution p + 1)) w.0 w.2 over (omega (arith, level)) } in
-                  rest_clear (ancestor_at w.0 (resolution p + 1)) (h.all (ancestor_at w.0 (resolution p + 1)) kid) w.0 w.1 (inl over)
+                  let kid : IsChild p (ancestor_at w.0 (resolution p + 1)) = record {
+                    valid = tree.cut_cell w.0 (resolution p + 1) o_valid size;
+                    resolution_is = level;
+                    under = tree.ordered p (ancestor_at w.0 (resolution p + 1)) w.0 w.2 over (omega (arith, level));
+                  } in
+                  rest_clear (ancestor_at w.0 (resolution p + 1)) (h.all (ancestor_at w.0 (resolution p + 1)) kid) w.0
+                  w.1 (inl over)
               | inr not ↦
                   let same : w.0 ≡ p = tree.same p w.0 w.2 not in
                   clear (inr (subst (λ v. IsAncestor v x) (sym same) k.under))
@@ -353,22 +433,35 @@ module _ (tree : CellsFormTrees) (intervals : CellsFormIntervals) where
       pub rest_region : IsRegion (left_of_all cells others)
       rest_region =
           record {
-            valid = all_of IsCell (left_of_all cells others) (λ x m. (let w = from_rest x m in ((clear_of w.0 w.1).under x w.2).0));
+            valid =
+                all_of IsCell (left_of_all cells others)
+                (λ x m. (let w = from_rest x m in ((clear_of w.0 w.1).under x w.2).0));
             in_order = λ i j d lt lj. (rest_ordered i j d lt lj).0;
             apart = λ i j d lt lj. (rest_ordered i j d lt lj).1;
             no_siblings = no_set;
           }
 
       -- it covers what the cells cover and the others do not
-      pub rest_covers : (r : ℕ) → finest others ≤ r → (y : Address) → IsCovered (left_of_all cells others) r y ↔ (IsCovered cells r y × (¬ IsCovered others r y))
+      pub rest_covers : (r : ℕ) → finest others ≤ r → (y : Address)
+          → IsCovered (left_of_all cells others) r y ↔ (IsCovered cells r y × (¬ IsCovered others r y))
       rest_covers r fine y = (
         (λ c.
             let w = from_rest c.by c.member in
             let u = (clear_of w.0 w.1).under c.by w.2 in (
-              record { by = w.0; member = w.1; below = record { valid = c.below.valid; resolution_is = c.below.resolution_is; under = tree.through w.0 c.by y u.1 c.below.under } },
+              record {
+                by = w.0;
+                member = w.1;
+                below = record {
+                  valid = c.below.valid;
+                  resolution_is = c.below.resolution_is;
+                  under = tree.through w.0 c.by y u.1 c.below.under;
+                };
+              },
               (λ d. rest_clear c.by c.member d.by d.member (ordered_or tree c.by d.by y c.below.under d.below.under)),
             )),
         (λ (c, out).
-            let k = covers_rest r fine (15 - resolution c.by) c.by (level_of c.by c.member) (member_valid c.by c.member) y c.below out in
+            let k =
+            covers_rest r fine (15 - resolution c.by) c.by (level_of c.by c.member) (member_valid c.by c.member) y
+            c.below out in
             record { by = k.by; member = in_rest c.by k.by c.member k.member; below = k.below }),
       )

@@ -47,9 +47,13 @@ pairs_append R xs ys p q cross i j d lt lj =
           elim (cases_lt i (length xs)) [
             | inl left ↦
                 rw (get_or_append_left xs ys d i left, get_or-append_right xs ys (length xs) j d refl right)
-                (cross (get_or xs i d) (get_or ys (j - length xs) d) (Contains-get_or xs i d left) (Contains-get_or ys (j - length xs) d k))
+                (cross (get_or xs i d) (get_or ys (j - length xs) d) (Contains-get_or xs i d left)
+                (Contains-get_or ys (j - length xs) d k))
             | inr also ↦
-                rw (get_or-append_right xs ys (length xs) i d refl also, get_or-append_right xs ys (length xs) j d refl right)
+                rw (
+                  get_or-append_right xs ys (length xs) i d refl also,
+                  get_or-append_right xs ys (length xs) j d refl right,
+                )
                 (q (i - length xs) (j - length xs) d (omega (arith, lt, also)) k)
           ]
     ]
@@ -95,7 +99,9 @@ module _ (tree : CellsFormTrees) (found : AncestorsAreFound) (areas : List (Addr
       let top = below_highest areas h.by n h.member in
       in_flat (areas_from areas x) (range_with_len 0 (resolution x + 1)) (coarsest areas x n) n
       (in_range (resolution x + 1) (coarsest areas x n) (omega (arith, le, up)))
-      (kept (λ a. coarsest areas x a == coarsest areas x n) (range_with_len 0 (highest areas + 1)) n (in_range (highest areas + 1) n (omega (arith, top))) (same_is (coarsest areas x n) (coarsest areas x n) refl))
+      (kept (λ a. coarsest areas x a == coarsest areas x n) (range_with_len 0 (highest areas + 1)) n
+      (in_range (highest areas + 1) n (omega (arith, top)))
+      (same_is (coarsest areas x n) (coarsest areas x n) refl))
 
   at_level : (r n : ℕ) → Contains (areas_from areas x r) n → coarsest areas x n ≡ r
   at_level r n m =

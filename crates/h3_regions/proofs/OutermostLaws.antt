@@ -125,7 +125,8 @@ module _ (tree : CellsFormTrees) (intervals : CellsFormIntervals) (all : List (A
       not_above h e over = h (subst (λ p. IsAncestor p.0 pair.0) (any_default now w e d some) over)
 
     -- ---- it is kept
-    module _ (outer : (w ≡ length now) ⊎ ((w < length now) × ((d : Address × ℕ) → ¬ IsAncestor (get_or now w d).0 pair.0))) where
+    module _ (outer : (w ≡ length now)
+        ⊎ ((w < length now) × ((d : Address × ℕ) → ¬ IsAncestor (get_or now w d).0 pair.0))) where
       top_above : (d : Address × ℕ) → w < length all → ¬ IsAncestor (get_or now w d).0 pair.0
       top_above d l = elim outer [
         | inl e ↦ absurd (omega (arith, e, l, inv.size))
@@ -141,7 +142,8 @@ module _ (tree : CellsFormTrees) (intervals : CellsFormIntervals) (all : List (A
             | inr not ↦
                 let one : 1 ≤ 8 ^ (15 - resolution t.0) = one-le-pow (15 - resolution t.0) 8 (omega arith) in
                 absurd
-                (top_above d l ((intervals.interval t.0 pair.0 (kept_valid w d (omega arith) l) pair_valid).1 (le, omega (arith, not, one))))
+                (top_above d l ((intervals.interval t.0 pair.0 (kept_valid w d (omega arith) l) pair_valid).1
+                (le, omega (arith, not, one))))
           ]
 
       before_kept : (b : ℕ) (d : Address × ℕ) → w ≤ b → b < length all → key pair.0 < key (get_or now b d).0
@@ -168,7 +170,8 @@ module _ (tree : CellsFormTrees) (intervals : CellsFormIntervals) (all : List (A
                   let first = before_top d wl in
                   let rise = inv.rises w b d (omega arith) less l in
                   inv.apart w b d (omega arith) less l
-                  (inr ((intervals.interval kept.0 t.0 vk (kept_valid w d (omega arith) wl)).1 (omega (arith, rise), omega (arith, v.1, first))))
+                  (inr ((intervals.interval kept.0 t.0 vk (kept_valid w d (omega arith) wl)).1
+                  (omega (arith, rise), omega (arith, v.1, first))))
               | inr not ↦
                   let e : w ≡ b = omega (arith, le, not) in
                   top_above d (omega (arith, e, l)) (subst (λ k. IsAncestor (get_or now k d).0 pair.0) (sym e) under)
@@ -226,7 +229,8 @@ module _ (tree : CellsFormTrees) (intervals : CellsFormIntervals) (all : List (A
             (IsPermutation-swap now (swap now i (w - 1)) i (w - 1) lt v_room refl);
         low = omega (arith, inv.low);
         high = omega (arith, inv.high);
-        rest = λ j d l. other j d (λ e. omega (arith, e, l)) (λ e. omega (arith, e, l, inv.low)) ∙ inv.rest j d (omega (arith, l));
+        rest = λ j d l.
+            other j d (λ e. omega (arith, e, l)) (λ e. omega (arith, e, l, inv.low)) ∙ inv.rest j d (omega (arith, l));
         chosen = λ k d le l. elim (cases_lt k w) [
           | inl less ↦
               let e : k ≡ w - 1 = omega (arith, le, less) in (i, omega arith, room, rw (e, at_v d) (sym (here d)))
@@ -238,8 +242,13 @@ module _ (tree : CellsFormTrees) (intervals : CellsFormIntervals) (all : List (A
               (a.0, omega (arith, a.1), a.2, rw (later a.0 d a.1) a.3, rw (later a.0 d a.1) a.4)
           | inr not ↦
               let e : i ≡ j = omega (arith, le, not) in
-              let there : get_or all j d ≡ pair = ap (λ k. get_or all k d) (sym e) ∙ here d in
-              (w - 1, omega arith, omega (arith, v_room, inv.size), rw (there, at_v d) (tree.own pair.0), rw (there, at_v d) refl)
+              let there : get_or all j d ≡ pair = ap (λ k. get_or all k d) (sym e) ∙ here d in (
+                w - 1,
+                omega arith,
+                omega (arith, v_room, inv.size),
+                rw (there, at_v d) (tree.own pair.0),
+                rw (there, at_v d) refl,
+              )
         ];
         rises = kept_rises;
         apart = kept_apart;
@@ -256,9 +265,18 @@ module _ (tree : CellsFormTrees) (intervals : CellsFormIntervals) (all : List (A
 
     pub outer_kept : AreOuter (drop w now)
     outer_kept = record {
-      valid = λ k d l. (let b = back k d l in let c = inv.chosen (w + k) d (omega arith) b.0 in subst (λ p. IsCell p.0) (sym (b.1 ∙ c.3)) (valid c.0 d c.2));
-      in_order = λ a b d la lb. (let ba = back a d (omega (arith, la, lb)) in let bb = back b d lb in rw (ba.1, bb.1) (inv.rises (w + a) (w + b) d (omega arith) (omega (arith, la)) bb.0));
-      apart = λ a b d la lb. (let ba = back a d (omega (arith, la, lb)) in let bb = back b d lb in rw (ba.1, bb.1) (inv.apart (w + a) (w + b) d (omega arith) (omega (arith, la)) bb.0));
+      valid = λ k d l.
+          (let b = back k d l in
+          let c = inv.chosen (w + k) d (omega arith) b.0 in
+          subst (λ p. IsCell p.0) (sym (b.1 ∙ c.3)) (valid c.0 d c.2));
+      in_order = λ a b d la lb.
+          (let ba = back a d (omega (arith, la, lb)) in
+          let bb = back b d lb in
+          rw (ba.1, bb.1) (inv.rises (w + a) (w + b) d (omega arith) (omega (arith, la)) bb.0));
+      apart = λ a b d la lb.
+          (let ba = back a d (omega (arith, la, lb)) in
+          let bb = back b d lb in
+          rw (ba.1, bb.1) (inv.apart (w + a) (w + b) d (omega arith) (omega (arith, la)) bb.0));
     }
 
     pub alike_kept : AreAlike (drop w now) all
@@ -287,7 +305,8 @@ module _ (tree : CellsFormTrees) (intervals : CellsFormIntervals) (all : List (A
     one_place : (a b : ℕ) (d : Address × ℕ) (x : Address) → w ≤ a → a < length all → w ≤ b → b < length all
         → IsAncestor (get_or now a d).0 x → IsAncestor (get_or now b d).0 x → a ≡ b
     one_place a b d x wa la wb lb over above =
-        let o : Overlap (get_or now a d).0 (get_or now b d).0 = elim (cases_lt (resolution (get_or now b d).0) (resolution (get_or now a d).0)) [
+        let o : Overlap (get_or now a d).0 (get_or now b d).0 =
+        elim (cases_lt (resolution (get_or now b d).0) (resolution (get_or now a d).0)) [
           | inl coarse ↦ inr (tree.ordered (get_or now b d).0 (get_or now a d).0 x above over (omega (arith, coarse)))
           | inr not ↦ inl (tree.ordered (get_or now a d).0 (get_or now b d).0 x over above not)
         ] in

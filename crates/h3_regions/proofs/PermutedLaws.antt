@@ -76,11 +76,13 @@ module _ (tree : CellsFormTrees) (found : AncestorsAreFound) where
             let b = get_or (areas_of areas x) j d in
             let ea =
             same_level areas others same x (get_or (areas_of areas x) i d)
-            (level_small areas x (get_or (areas_of areas x) i d) coarse ((l.each (get_or (areas_of areas x) i d)).0 (Contains-get_or (areas_of areas x) i d (omega (arith, lt, lj)))))
+            (level_small areas x (get_or (areas_of areas x) i d) coarse ((l.each (get_or (areas_of areas x) i d)).0
+            (Contains-get_or (areas_of areas x) i d (omega (arith, lt, lj)))))
             in
             let eb =
             same_level areas others same x (get_or (areas_of areas x) j d)
-            (level_small areas x (get_or (areas_of areas x) j d) coarse ((l.each (get_or (areas_of areas x) j d)).0 (Contains-get_or (areas_of areas x) j d lj)))
+            (level_small areas x (get_or (areas_of areas x) j d) coarse
+            ((l.each (get_or (areas_of areas x) j d)).0 (Contains-get_or (areas_of areas x) j d lj)))
             in
             elim (l.in_order i j d lt lj) [
               | inl less ↦ inl (omega (arith, less, ea, eb))
@@ -90,7 +92,8 @@ module _ (tree : CellsFormTrees) (found : AncestorsAreFound) where
 
   pub areas_in_any_order : AreasInAnyOrder
   areas_in_any_order = record {
-    lies = λ areas others same x n. (lies_permuted areas others same x n, lies_permuted others areas (IsPermutation-sym areas others same) x n);
+    lies = λ areas others same x n.
+        (lies_permuted areas others same x n, lies_permuted others areas (IsPermutation-sym areas others same) x n);
     listed = list_permuted;
     apart = apart_permuted;
   }
@@ -110,5 +113,6 @@ module _ (tree : CellsFormTrees) (found : AncestorsAreFound) where
           | inr not ↦ inl (tree.ordered h.by k.by x h.above k.above not)
         ] in
         absurd
-        (apart m n (record { different = ne; one = h.by; other = k.by; of_one = h.member; of_other = k.member; overlap = o }))
+        (apart m n
+        (record { different = ne; one = h.by; other = k.by; of_one = h.member; of_other = k.member; overlap = o }))
   ]

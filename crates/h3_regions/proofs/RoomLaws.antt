@@ -29,7 +29,8 @@ abbrev bit : Bool → ℕ
 bit true = 1
 bit false = 0
 
-total-le : (f g : Address → ℕ) (xs : List Address) → ((x : Address) → Contains xs x → f x ≤ g x) → total f xs ≤ total g xs
+total-le : (f g : Address → ℕ) (xs : List Address) → ((x : Address) → Contains xs x → f x ≤ g x)
+    → total f xs ≤ total g xs
 unfolding total
 total-le f g [] h = omega arith
 total-le f g (x ∷ xs) h =
@@ -63,13 +64,15 @@ length-flat f [] = refl
 length-flat f (x ∷ xs) = length-append (f x) (flat_map f xs) ∙ ap (λ n. length (f x) + n) (length-flat f xs)
 
 -- sums in the other order
-total-total : (R : Address → Address → ℕ) (ks os : List Address) → total (λ k. total (R k) os) ks ≡ total (λ o. total (λ k. R k o) ks) os
+total-total : (R : Address → Address → ℕ) (ks os : List Address)
+    → total (λ k. total (R k) os) ks ≡ total (λ o. total (λ k. R k o) ks) os
 unfolding total
 total-total R [] os = sym (total-zero os)
 total-total R (k ∷ ks) os =
     ap (λ n. total (R k) os + n) (total-total R ks os) ∙ sym (total-add (R k) (λ o. total (λ k'. R k' o) ks) os)
 
-total_none : (p : Address → Bool) (ks : List Address) → ((k : Address) → Contains ks k → p k ≡ false) → total (λ k. bit (p k)) ks ≡ 0
+total_none : (p : Address → Bool) (ks : List Address) → ((k : Address) → Contains ks k → p k ≡ false)
+    → total (λ k. bit (p k)) ks ≡ 0
 unfolding total
 total_none p [] h = refl
 total_none p (k ∷ ks) h =
@@ -82,14 +85,16 @@ bit_small true = omega arith
 bit_small false = omega arith
 
 -- where no two pass, at most one does
-total_one : (p : Address → Bool) (ks : List Address) → AllPairs (λ x y. p x ≡ true → p y ≡ true → ⊥) ks → total (λ k. bit (p k)) ks ≤ 1
+total_one : (p : Address → Bool) (ks : List Address) → AllPairs (λ x y. p x ≡ true → p y ≡ true → ⊥) ks
+    → total (λ k. bit (p k)) ks ≤ 1
 unfolding total
 total_one p [] h = omega arith
 total_one p (k ∷ ks) h =
     elim (cases_Bool (p k)) [
       | inl t ↦
           let here : bit (p k) ≡ 1 = ap bit t in
-          let rest = total_none p ks (λ y m. not_true (p y) (pairs_head (λ x y. p x ≡ true → p y ≡ true → ⊥) k ks h y m t)) in
+          let rest =
+          total_none p ks (λ y m. not_true (p y) (pairs_head (λ x y. p x ≡ true → p y ≡ true → ⊥) k ks h y m t)) in
           omega (arith, here, rest)
       | inr f ↦
           let here : bit (p k) ≡ 0 = ap bit f in
@@ -98,7 +103,8 @@ total_one p (k ∷ ks) h =
     ]
 
 -- where one fails, fewer pass than there are
-total_fewer : (p : Address → Bool) (ks : List Address) (x : Address) → Contains ks x → p x ≡ false → total (λ k. bit (p k)) ks + 1 ≤ length ks
+total_fewer : (p : Address → Bool) (ks : List Address) (x : Address) → Contains ks x → p x ≡ false
+    → total (λ k. bit (p k)) ks + 1 ≤ length ks
 unfolding total
 total_fewer p [] x m f = absurd (omega (arith, m.1))
 total_fewer p (k ∷ ks) x m f =
@@ -112,7 +118,8 @@ total_fewer p (k ∷ ks) x m f =
           omega (arith, rest, bit_small (p k))
     ]
 
-total_some : (p : Address → Bool) (ks : List Address) (x : Address) → Contains ks x → p x ≡ true → 1 ≤ total (λ k. bit (p k)) ks
+total_some : (p : Address → Bool) (ks : List Address) (x : Address) → Contains ks x → p x ≡ true
+    → 1 ≤ total (λ k. bit (p k)) ks
 unfolding total
 total_some p [] x m t = absurd (omega (arith, m.1))
 total_some p (k ∷ ks) x m t =
@@ -121,16 +128,23 @@ total_some p (k ∷ ks) x m t =
       | inr n ↦ let rest = total_some p ks x n t in omega (arith, rest)
     ]
 
-module _ (tree : CellsFormTrees) (intervals : CellsFormIntervals) (found : AncestorsAreFound) (hexagons : HexagonsHaveSevens) (pentagons : PentagonsHaveFewer) (others : List Address) (ro : IsRegion others) where
+module _ (tree : CellsFormTrees) (intervals : CellsFormIntervals) (found : AncestorsAreFound)
+    (hexagons : HexagonsHaveSevens) (pentagons : PentagonsHaveFewer) (others : List Address)
+    (ro : IsRegion others) where
   -- no two of cells that do not overlap stand above one
-  none_twice : (ks : List Address) → IsApart ks → (o : Address) → AllPairs (λ x y. is_ancestor x o ≡ true → is_ancestor y o ≡ true → ⊥) ks
+  none_twice : (ks : List Address) → IsApart ks → (o : Address)
+      → AllPairs (λ x y. is_ancestor x o ≡ true → is_ancestor y o ≡ true → ⊥) ks
   none_twice ks apart o i j d lt lj s t =
-      apart i j d lt lj (ordered_or tree (get_or ks i d) (get_or ks j d) o ((found (get_or ks i d) o).0 s) ((found (get_or ks j d) o).0 t))
+      apart i j d lt lj (ordered_or tree (get_or ks i d) (get_or ks j d) o ((found (get_or ks i d) o).0 s)
+      ((found (get_or ks j d) o).0 t))
 
-  weights_all : (ks : List Address) → IsApart ks → total (λ k. total (λ o. bit (is_ancestor k o)) others) ks ≤ length others
+  weights_all : (ks : List Address) → IsApart ks
+      → total (λ k. total (λ o. bit (is_ancestor k o)) others) ks ≤ length others
   weights_all ks apart =
       let turned = total-total (λ k o. bit (is_ancestor k o)) ks others in
-      let each = total-le (λ o. total (λ k. bit (is_ancestor k o)) ks) (λ o. 1) others (λ o m. total_one (λ k. is_ancestor k o) ks (none_twice ks apart o)) in
+      let each =
+      total-le (λ o. total (λ k. bit (is_ancestor k o)) ks) (λ o. 1) others
+      (λ o m. total_one (λ k. is_ancestor k o) ks (none_twice ks apart o)) in
       omega (arith, turned, each, total-one others)
 
   at_most_seven : (c : Address) → length (children c) ≤ 7
@@ -145,10 +159,13 @@ module _ (tree : CellsFormTrees) (intervals : CellsFormIntervals) (found : Ances
     apart_children : IsApart (children c)
     apart_children i j d lt lj = (children_ordered tree intervals c valid coarse i j d lt lj).1
 
-    weights_below : total (λ k. total (λ o. bit (is_ancestor k o)) others) (children c) ≤ total (λ o. bit (is_ancestor c o)) others
+    weights_below : total (λ k. total (λ o. bit (is_ancestor k o)) others) (children c)
+        ≤ total (λ o. bit (is_ancestor c o)) others
     weights_below =
         let turned = total-total (λ k o. bit (is_ancestor k o)) (children c) others in
-        let each = total-le (λ o. total (λ k. bit (is_ancestor k o)) (children c)) (λ o. bit (is_ancestor c o)) others (λ o m. at_one o) in
+        let each =
+        total-le (λ o. total (λ k. bit (is_ancestor k o)) (children c)) (λ o. bit (is_ancestor c o)) others
+        (λ o m. at_one o) in
         omega (arith, turned, each)
       where
         at_one : (o : Address) → total (λ k. bit (is_ancestor k o)) (children c) ≤ bit (is_ancestor c o)
@@ -156,15 +173,21 @@ module _ (tree : CellsFormTrees) (intervals : CellsFormIntervals) (found : Ances
             elim (cases_Bool (is_ancestor c o)) [
               | inl t ↦
                   let here : bit (is_ancestor c o) ≡ 1 = ap bit t in
-                  omega (arith, here, total_one (λ k. is_ancestor k o) (children c) (none_twice (children c) apart_children o))
+                  omega (
+                    arith,
+                    here,
+                    total_one (λ k. is_ancestor k o) (children c) (none_twice (children c) apart_children o),
+                  )
               | inr f ↦
                   let zero_all = total_none (λ k. is_ancestor k o) (children c) (λ k m. not_true (is_ancestor k o) (λ t.
-                  both_ways (is_ancestor c o) f ((found c o).1 (tree.through c k o (child_of tree intervals c valid coarse k m).under ((found k o).0 t))))) in
+                  both_ways (is_ancestor c o) f ((found c o).1
+                  (tree.through c k o (child_of tree intervals c valid coarse k m).under ((found k o).0 t))))) in
                   omega (arith, zero_all)
             ]
 
     -- one child has others below it
-    child_with : is_covered others c ≡ false → has_below others c ≡ true → (k : Address) × Contains (children c) k × (has_below others k ≡ true)
+    child_with : is_covered others c ≡ false → has_below others c ≡ true
+        → (k : Address) × Contains (children c) k × (has_below others k ≡ true)
     child_with f g =
         let w = from_below found others c g in
         let v = All-contains IsCell others w.0 ro.valid w.1 in
@@ -173,22 +196,36 @@ module _ (tree : CellsFormTrees) (intervals : CellsFormIntervals) (found : Ances
               let size : resolution c + 1 ≤ resolution w.0 = omega (arith, lt) in
               let level = tree.resolution-ancestor_at w.0 (resolution c + 1) size in
               let over = tree.cut_ancestor w.0 (resolution c + 1) size in
-              let kid : IsChild c (ancestor_at w.0 (resolution c + 1)) = record { valid = tree.cut_cell w.0 (resolution c + 1) v size; resolution_is = level; under = tree.ordered c (ancestor_at w.0 (resolution c + 1)) w.0 w.2 over (omega (arith, level)) } in
-              (ancestor_at w.0 (resolution c + 1), of_child tree intervals c valid coarse (ancestor_at w.0 (resolution c + 1)) kid, below_true found others (ancestor_at w.0 (resolution c + 1)) w.0 w.1 over)
+              let kid : IsChild c (ancestor_at w.0 (resolution c + 1)) = record {
+                valid = tree.cut_cell w.0 (resolution c + 1) v size;
+                resolution_is = level;
+                under = tree.ordered c (ancestor_at w.0 (resolution c + 1)) w.0 w.2 over (omega (arith, level));
+              } in (
+                ancestor_at w.0 (resolution c + 1),
+                of_child tree intervals c valid coarse (ancestor_at w.0 (resolution c + 1)) kid,
+                below_true found others (ancestor_at w.0 (resolution c + 1)) w.0 w.1 over,
+              )
           | inr not_finer ↦
               let same : w.0 ≡ c = tree.same c w.0 w.2 not_finer in
-              absurd (both_ways (is_covered others c) f (covered_true found others c w.0 w.1 (subst (λ a. IsAncestor a c) (sym same) (tree.own c))))
+              absurd (both_ways (is_covered others c) f
+              (covered_true found others c w.0 w.1 (subst (λ a. IsAncestor a c) (sym same) (tree.own c))))
         ]
 
   -- a whole cell counts one, and one that is divided six a level for each of the others below it
   abbrev allowed : ℕ → Address → ℕ
   allowed n c = bit (not (has_below others c)) + (6 * n) * total (λ o. bit (is_ancestor c o)) others
 
-  divided : (m : ℕ) (c : Address) → IsCell c → resolution c < 15 → is_covered others c ≡ false → has_below others c ≡ true → ((k : Address) → IsChild c k → length (left_of others m k) ≤ allowed m k) → length (flat_map (left_of others m) (children c)) ≤ (6 * suc m) * total (λ o. bit (is_ancestor c o)) others
+  divided : (m : ℕ) (c : Address) → IsCell c → resolution c < 15 → is_covered others c ≡ false
+      → has_below others c ≡ true → ((k : Address) → IsChild c k → length (left_of others m k) ≤ allowed m k)
+      → length (flat_map (left_of others m) (children c)) ≤ (6 * suc m) * total (λ o. bit (is_ancestor c o)) others
   divided m c valid coarse f g each =
       let flat = length-flat (left_of others m) (children c) in
-      let bound = total-le (λ k. length (left_of others m k)) (allowed m) (children c) (λ k n. each k (child_of tree intervals c valid coarse k n)) in
-      let parts = total-add (λ k. bit (not (has_below others k))) (λ k. (6 * m) * total (λ o. bit (is_ancestor k o)) others) (children c) in
+      let bound =
+      total-le (λ k. length (left_of others m k)) (allowed m) (children c)
+      (λ k n. each k (child_of tree intervals c valid coarse k n)) in
+      let parts =
+      total-add (λ k. bit (not (has_below others k))) (λ k. (6 * m) * total (λ o. bit (is_ancestor k o)) others)
+      (children c) in
       let times = total-times (6 * m) (λ k. total (λ o. bit (is_ancestor k o)) others) (children c) in
       let less = mul-le-mul_left (6 * m) (weights_below c valid coarse) in
       let one = child_with c valid coarse f g in
@@ -207,13 +244,15 @@ module _ (tree : CellsFormTrees) (intervals : CellsFormIntervals) (found : Ances
   few zero c level valid =
       elim (which tree intervals found others ro zero c level valid) [
         | gone t e ↦ rw e (omega arith)
-        | whole f g e ↦ let one : bit (not (has_below others c)) ≡ 1 = ap (λ b. bit (not b)) g in rw e (omega (arith, one))
+        | whole f g e ↦
+            let one : bit (not (has_below others c)) ≡ 1 = ap (λ b. bit (not b)) g in rw e (omega (arith, one))
         | split m f g down coarse e ↦ absurd (omega (arith, down))
       ]
   few (suc n) c level valid =
       elim (which tree intervals found others ro (suc n) c level valid) [
         | gone t e ↦ rw e (omega arith)
-        | whole f g e ↦ let one : bit (not (has_below others c)) ≡ 1 = ap (λ b. bit (not b)) g in rw e (omega (arith, one))
+        | whole f g e ↦
+            let one : bit (not (has_below others c)) ≡ 1 = ap (λ b. bit (not b)) g in rw e (omega (arith, one))
         | split m f g down coarse e ↦
             let same : m ≡ n = omega (arith, down) in
             let is : left_of others (suc n) c ≡ flat_map (left_of others n) (children c) = rw same at e in
@@ -221,21 +260,28 @@ module _ (tree : CellsFormTrees) (intervals : CellsFormIntervals) (found : Ances
             rw is (omega (arith, most))
       ]
 
-  few_whole : (c : Address) → IsCell c → length (left_of others (15 - resolution c) c) ≤ 1 + 90 * total (λ o. bit (is_ancestor c o)) others
+  few_whole : (c : Address) → IsCell c
+      → length (left_of others (15 - resolution c) c) ≤ 1 + 90 * total (λ o. bit (is_ancestor c o)) others
   few_whole c valid =
       let h = few (15 - resolution c) c (omega (arith, valid.coarse)) valid in
       let small = bit_small (not (has_below others c)) in
-      let scale : (6 * (15 - resolution c)) * total (λ o. bit (is_ancestor c o)) others ≤ 90 * total (λ o. bit (is_ancestor c o)) others = times_le (6 * (15 - resolution c)) 90 (total (λ o. bit (is_ancestor c o)) others) (omega arith) in
+      let scale : (6 * (15 - resolution c)) * total (λ o. bit (is_ancestor c o)) others
+      ≤ 90 * total (λ o. bit (is_ancestor c o)) others =
+      times_le (6 * (15 - resolution c)) 90 (total (λ o. bit (is_ancestor c o)) others) (omega arith) in
       omega (arith, h, small, scale)
     where
       times_le : (a b w : ℕ) → a ≤ b → a * w ≤ b * w
       times_le a b w le = grind arith
 
-  pub small : (cells : List Address) → IsRegion cells → length (left_of_all cells others) ≤ length cells + 90 * length others
+  pub small : (cells : List Address) → IsRegion cells
+      → length (left_of_all cells others) ≤ length cells + 90 * length others
   unfolding left_of_all
   small cells rc =
       let flat = length-flat (λ c. left_of others (15 - resolution c) c) cells in
-      let bound = total-le (λ c. length (left_of others (15 - resolution c) c)) (λ c. 1 + 90 * total (λ o. bit (is_ancestor c o)) others) cells (λ c m. few_whole c (All-contains IsCell cells c rc.valid m)) in
+      let bound =
+      total-le (λ c. length (left_of others (15 - resolution c) c))
+      (λ c. 1 + 90 * total (λ o. bit (is_ancestor c o)) others) cells
+      (λ c m. few_whole c (All-contains IsCell cells c rc.valid m)) in
       let parts = total-add (λ c. 1) (λ c. 90 * total (λ o. bit (is_ancestor c o)) others) cells in
       let times = total-times 90 (λ c. total (λ o. bit (is_ancestor c o)) others) cells in
       let all = weights_all cells rc.apart in

@@ -48,7 +48,8 @@ module _ (cells : List Address) (region : IsZones cells) where
       ]
 
   -- if the last cell before a place has a key below k, so have those before it, and likewise after it
-  pub below_from_last : (k i : ℕ) → (d : Address) → 0 < i → i ≤ length cells → key (get_or cells (i - 1) d) < k → AreBelow cells k i
+  pub below_from_last : (k i : ℕ) → (d : Address) → 0 < i → i ≤ length cells → key (get_or cells (i - 1) d) < k
+      → AreBelow cells k i
   below_from_last k i d some room less j e from lt =
       let h = keys_rise j (i - 1) e (omega (arith, lt)) (omega (arith, some, room)) in
       let same = ap key (any_default cells (i - 1) e d (omega (arith, some, room))) in
@@ -61,7 +62,8 @@ module _ (cells : List Address) (region : IsZones cells) where
       omega (arith, h, same, le)
 
   -- the cell before a place decides whether those before it have keys below k, and the one there likewise
-  pub below_where : (k i r : ℕ) (a : Address) → 0 < i → i ≤ length cells → a ≡ get_or cells (i - 1) a → r ≡ key a → IsTrue (nat_lt r k) ↔ AreBelow cells k i
+  pub below_where : (k i r : ℕ) (a : Address) → 0 < i → i ≤ length cells → a ≡ get_or cells (i - 1) a → r ≡ key a
+      → IsTrue (nat_lt r k) ↔ AreBelow cells k i
   below_where k i r a some room is r_is = (
     (λ t.
         let less : r < k = is_less r k t in
@@ -71,7 +73,8 @@ module _ (cells : List Address) (region : IsZones cells) where
         less_is r k (omega (arith, less, r_is, ap key is))),
   )
 
-  pub not_below_where : (k i r : ℕ) (a : Address) → i < length cells → a ≡ get_or cells i a → r ≡ key a → IsTrue (nat_le k r) ↔ AreNotBelow cells k i
+  pub not_below_where : (k i r : ℕ) (a : Address) → i < length cells → a ≡ get_or cells i a → r ≡ key a
+      → IsTrue (nat_le k r) ↔ AreNotBelow cells k i
   not_below_where k i r a lt is r_is = (
     (λ t.
         let le : k ≤ r = leb-true k r t in
@@ -81,26 +84,41 @@ module _ (cells : List Address) (region : IsZones cells) where
         le-leb k r (omega (arith, le, r_is, ap key is))),
   )
 
-  -- one step of a search: h places on, where the cell there has a key below k; what is sought is between, if it was at first
-  pub narrowed : {A : Type 0} (k first size h passed : ℕ) (a : Address) → h + h ≤ size → h < size → first + size ≤ length cells → a ≡ get_or cells (first + h) a → passed ≡ from_bool (nat_lt (key a) k) → (A → AreBelow cells k first) → (A → AreNotBelow cells k (first + size)) → (first + h * passed + (size - h) ≤ length cells) × (A → AreBelow cells k (first + h * passed)) × (A → AreNotBelow cells k (first + h * passed + (size - h)))
+  -- one step of a search: h places on, where the cell there has a key below k; what is sought is between, if it was at
+  -- first
+  pub narrowed : {A : Type 0} (k first size h passed : ℕ) (a : Address) → h + h ≤ size → h < size
+      → first + size ≤ length cells → a ≡ get_or cells (first + h) a → passed ≡ from_bool (nat_lt (key a) k)
+      → (A → AreBelow cells k first) → (A → AreNotBelow cells k (first + size))
+      → (first + h * passed + (size - h) ≤ length cells) × (A → AreBelow cells k (first + h * passed))
+      × (A → AreNotBelow cells k (first + h * passed + (size - h)))
   narrowed k first size h passed a half some room is p below after =
       elim (cases_lt (key a) k) [
         | inl less ↦
             let one : passed ≡ 1 = p ∙ ap from_bool (less_is (key a) k less) in
             let at : first + h * passed ≡ first + h = rw one (omega arith) in
             let end : first + h * passed + (size - h) ≡ first + size = rw one (omega (arith, some)) in
-            let more = below_from_last k (first + h + 1) a (omega arith) (omega (arith, some, room)) (rw (sub_one first h) (omega (arith, less, ap key is))) in
-            (omega (arith, end, room), λ so. rw at (λ j d from lt. more j d from (omega (arith, lt))), λ so. rw end (after so))
+            let more =
+            below_from_last k (first + h + 1) a (omega arith) (omega (arith, some, room))
+            (rw (sub_one first h) (omega (arith, less, ap key is))) in (
+              omega (arith, end, room),
+              λ so. rw at (λ j d from lt. more j d from (omega (arith, lt))),
+              λ so. rw end (after so),
+            )
         | inr not ↦
             let none : passed ≡ 0 = p ∙ ap from_bool (less_is_not (key a) k not) in
             let at : first + h * passed ≡ first = rw none (omega arith) in
             let end : first + h * passed + (size - h) ≡ first + (size - h) = rw none (omega arith) in
-            let more = not_below_from k (first + h) a (omega (arith, not, ap key is)) in
-            (omega (arith, end, room), λ so. rw at (below so), λ so. rw end (λ j d from lt. more j d (omega (arith, from, half)) lt))
+            let more = not_below_from k (first + h) a (omega (arith, not, ap key is)) in (
+              omega (arith, end, room),
+              λ so. rw at (below so),
+              λ so. rw end (λ j d from lt. more j d (omega (arith, from, half)) lt),
+            )
       ]
 
   -- one more is looked at
-  pub counted_more : (k from i first passed : ℕ) (a : Address) → i < length cells → a ≡ get_or cells i a → passed ≡ from_bool (nat_lt (key a) k) → IsCounted cells k from i first → IsCounted cells k from (i + 1) (first + passed)
+  pub counted_more : (k from i first passed : ℕ) (a : Address) → i < length cells → a ≡ get_or cells i a
+      → passed ≡ from_bool (nat_lt (key a) k) → IsCounted cells k from i first
+      → IsCounted cells k from (i + 1) (first + passed)
   counted_more k from i first passed a lt is p s =
       elim (cases_lt (key a) k) [
         | inl less ↦
@@ -108,7 +126,9 @@ module _ (cells : List Address) (region : IsZones cells) where
             elim s.after [
               | inl e ↦
                   let at : first + passed ≡ i + 1 = omega (arith, one, e) in
-                  let more = below_from_last k (i + 1) a (omega arith) (omega (arith, lt)) (rw (back_one i) (omega (arith, less, ap key is))) in
+                  let more =
+                  below_from_last k (i + 1) a (omega arith) (omega (arith, lt))
+                  (rw (back_one i) (omega (arith, less, ap key is))) in
                   record { low = omega (arith, s.low); high = omega (arith, at); below = rw at more; after = inl at }
               | inr after ↦
                   let le = after i a s.high lt in
@@ -121,14 +141,25 @@ module _ (cells : List Address) (region : IsZones cells) where
               | inl e ↦ rw e (not_below_from k i a (omega (arith, not, ap key is)))
               | inr h ↦ h
             ] in
-            record { low = omega (arith, at, s.low); high = omega (arith, at, s.high); below = rw at s.below; after = inr (rw at after) }
+            record {
+              low = omega (arith, at, s.low);
+              high = omega (arith, at, s.high);
+              below = rw at s.below;
+              after = inr (rw at after);
+            }
       ]
 
-  pub counted : (k from to first : ℕ) → to ≤ length cells → AreNotBelow cells k to → IsCounted cells k from to first → IsFirstPlace cells k first
+  pub counted : (k from to first : ℕ) → to ≤ length cells → AreNotBelow cells k to → IsCounted cells k from to first
+      → IsFirstPlace cells k first
   counted k from to first room after s =
-      record { within = omega (arith, s.high, room); before = s.below; after = elim s.after [ inl e ↦ rw e after | inr h ↦ h ] }
+      record {
+        within = omega (arith, s.high, room);
+        before = s.below;
+        after = elim s.after [ inl e ↦ rw e after | inr h ↦ h ];
+      }
 
-  module _ (intervals : CellsFormIntervals) (x : Address) (valid : IsCell x) (i : ℕ) (split : IsFirstPlace cells (key x) i) where
+  module _ (intervals : CellsFormIntervals) (x : Address) (valid : IsCell x) (i : ℕ)
+      (split : IsFirstPlace cells (key x) i) where
     low : (j : ℕ) (d : Address) → j < i → key (get_or cells j d) < key x
     low j d lt = split.before j d (omega arith) lt
 
@@ -146,7 +177,9 @@ module _ (cells : List Address) (region : IsZones cells) where
             | inl after ↦
                 let up = high i x (omega arith) (omega (arith, after, lt)) in
                 let rise = region.in_order i j x after lt in
-                let under = inside intervals (get_or cells j x) (get_or cells i x) (region.valid j x lt) (region.valid i x (omega (arith, after, lt))) (omega (arith, rise)) (omega (arith, w.1, up)) in
+                let under =
+                inside intervals (get_or cells j x) (get_or cells i x) (region.valid j x lt)
+                (region.valid i x (omega (arith, after, lt))) (omega (arith, rise)) (omega (arith, w.1, up)) in
                 absurd (region.apart i j x after lt (inr under))
             | inr same ↦ omega (arith, not, same)
           ]

@@ -17,9 +17,15 @@ abbrev pub IsChild : Address → Address → Type 0
 IsChild p = IsDescendant p (resolution p + 1)
 
 -- what stands below a cell with an ancestor in a list is covered by the list
-covered_over : CellsFormTrees → (cells : List Address) (r : ℕ) (x y : Address) → HasAncestor cells x → IsDescendant x r y → IsCovered cells r y
+covered_over : CellsFormTrees → (cells : List Address) (r : ℕ) (x y : Address) → HasAncestor cells x
+    → IsDescendant x r y → IsCovered cells r y
 covered_over tree cells r x y h b =
-    record { by = h.by; member = h.member; below = record { valid = b.valid; resolution_is = b.resolution_is; under = tree.through h.by x y h.above b.under } }
+    record {
+      by = h.by;
+      member = h.member;
+      below =
+          record { valid = b.valid; resolution_is = b.resolution_is; under = tree.through h.by x y h.above b.under };
+    }
 
 module _ (tree : CellsFormTrees) where
   pub both_ways_one : (a b : Address) → IsAncestor a b → IsAncestor b a → a ≡ b
@@ -48,7 +54,8 @@ module _ (tree : CellsFormTrees) where
         both_ways_one x y above (subst (λ v. IsAncestor v x) same h.above)
 
     -- where one child of p is of a, all are
-    children_in : (L : List Address) → ((x : Address) → Contains L x → IsShared a b x) → (p y : Address) → HasChildren (Contains L) p → IsChild p y → Contains a y → (x : Address) → IsChild p x → Contains a x
+    children_in : (L : List Address) → ((x : Address) → Contains L x → IsShared a b x) → (p y : Address)
+        → HasChildren (Contains L) p → IsChild p y → Contains a y → (x : Address) → IsChild p x → Contains a x
     children_in L shared p y h c m x k =
         elim (shared x (h.all x k)) [
           | inl in_a ↦ in_a.0
@@ -79,7 +86,8 @@ module _ (tree : CellsFormTrees) where
 
     shared_valid : (x : Address) → Contains L x → IsCell x
     shared_valid x m =
-        elim (holds.shared x m) [ inl h ↦ All-contains IsCell a x ra.valid h.0 | inr h ↦ All-contains IsCell b x rb.valid h.0 ]
+        elim (holds.shared x m)
+        [ inl h ↦ All-contains IsCell a x ra.valid h.0 | inr h ↦ All-contains IsCell b x rb.valid h.0 ]
 
     shared_at : (k : ℕ) (d : Address) → k < length L → IsShared a b (get_or L k d)
     shared_at k d lt = holds.shared (get_or L k d) (Contains-get_or L k d lt)
@@ -90,7 +98,8 @@ module _ (tree : CellsFormTrees) where
         let y = get_or L j d in
         let sx = shared_at i d (omega (arith, lt, lj)) in
         let sy = shared_at j d lj in
-        let same : get_or L i d ≡ get_or L j d = elim o [ inl above ↦ one_shared x y sx sy above | inr above ↦ sym (one_shared y x sy sx above) ] in
+        let same : get_or L i d ≡ get_or L j d =
+        elim o [ inl above ↦ one_shared x y sx sy above | inr above ↦ sym (one_shared y x sy sx above) ] in
         absurd (omega (arith, holds.in_order i j d lt lj, ap key same))
 
     no_set : (p : Address) → ¬ HasChildren (Contains L) p
@@ -98,14 +107,25 @@ module _ (tree : CellsFormTrees) where
         let c = tree.center_descendant p (resolution p + 1) h.valid (omega arith) (omega (arith, h.coarse)) in
         let y = center_descendant p (resolution p + 1) in
         elim (holds.shared y (h.all y c)) [
-          | inl in_a ↦ ra.no_siblings p (record { valid = h.valid; coarse = h.coarse; all = children_in a b ra rb L holds.shared p y h c in_a.0 })
-          | inr in_b ↦ rb.no_siblings p (record { valid = h.valid; coarse = h.coarse; all = children_in b a rb ra L (λ x m. turn a b x (holds.shared x m)) p y h c in_b.0 })
+          | inl in_a ↦ ra.no_siblings p
+              (record { valid = h.valid; coarse = h.coarse; all = children_in a b ra rb L holds.shared p y h c in_a.0 })
+          | inr in_b ↦
+              rb.no_siblings p (record {
+                valid = h.valid;
+                coarse = h.coarse;
+                all = children_in b a rb ra L (λ x m. turn a b x (holds.shared x m)) p y h c in_b.0;
+              })
         ]
 
     -- it is a region
     pub shared_region : IsRegion L
     shared_region =
-        record { valid = all_of IsCell L shared_valid; in_order = holds.in_order; apart = shared_apart; no_siblings = no_set }
+        record {
+          valid = all_of IsCell L shared_valid;
+          in_order = holds.in_order;
+          apart = shared_apart;
+          no_siblings = no_set;
+        }
 
     -- of what both cover
     pub shared_covers : (r : ℕ) (x : Address) → IsCovered L r x ↔ (IsCovered a r x × IsCovered b r x)
@@ -115,7 +135,15 @@ module _ (tree : CellsFormTrees) where
         | inr h ↦ (covered_over tree a r c.by x h.1 c.below, record { by = c.by; member = h.0; below = c.below })
       ]),
       (λ (c, d). elim (ordered_or c.by d.by x c.below.under d.below.under) [
-        | inl above ↦ record { by = d.by; member = holds.all d.by (inr (d.member, record { by = c.by; member = c.member; above = above })); below = d.below }
-        | inr above ↦ record { by = c.by; member = holds.all c.by (inl (c.member, record { by = d.by; member = d.member; above = above })); below = c.below }
+        | inl above ↦ record {
+          by = d.by;
+          member = holds.all d.by (inr (d.member, record { by = c.by; member = c.member; above = above }));
+          below = d.below;
+        }
+        | inr above ↦ record {
+          by = c.by;
+          member = holds.all c.by (inl (c.member, record { by = d.by; member = d.member; above = above }));
+          below = c.below;
+        }
       ]),
     )

@@ -25,7 +25,9 @@ pub record IsFilling (cells : List Address) (lowest shift : ℕ) (firsts : List 
 
 module _ (cells : List Address) (region : IsZones cells) (lowest shift : ℕ) where
   -- where the cell at a place is the first that is not of a slot before t
-  pub first_there : (t i : ℕ) (a : Address) → i < length cells → a ≡ get_or cells i a → AllWithin (λ c. slot_of lowest shift (key c) < t) cells 0 i → t ≤ slot_of lowest shift (key a) → IsFirstInSlot cells lowest shift t i
+  pub first_there : (t i : ℕ) (a : Address) → i < length cells → a ≡ get_or cells i a
+      → AllWithin (λ c. slot_of lowest shift (key c) < t) cells 0 i → t ≤ slot_of lowest shift (key a)
+      → IsFirstInSlot cells lowest shift t i
   first_there t i a lt is before le = record {
     within = omega (arith, lt);
     before = before;
@@ -37,7 +39,8 @@ module _ (cells : List Address) (region : IsZones cells) (lowest shift : ℕ) wh
   }
 
   module _ (firsts : List ℕ) (table : IsFirstPlaces cells lowest shift firsts) where
-    pub below_by_table : (t k d : ℕ) → t < length firsts → t ≤ slot_of lowest shift k → AreBelow cells k (get_or firsts t d)
+    pub below_by_table : (t k d : ℕ) → t < length firsts → t ≤ slot_of lowest shift k
+        → AreBelow cells k (get_or firsts t d)
     below_by_table t k d lt le j e from lj =
         let h = (table t d lt).before j e from lj in
         elim (cases_lt (key (get_or cells j e)) k) [
@@ -45,11 +48,14 @@ module _ (cells : List Address) (region : IsZones cells) (lowest shift : ℕ) wh
           | inr not ↦ let up = rises lowest shift k (key (get_or cells j e)) not in absurd (omega (arith, h, le, up))
         ]
 
-    pub not_below_by_table : (t k d : ℕ) → t < length firsts → slot_of lowest shift k < t → AreNotBelow cells k (get_or firsts t d)
+    pub not_below_by_table : (t k d : ℕ) → t < length firsts → slot_of lowest shift k < t
+        → AreNotBelow cells k (get_or firsts t d)
     not_below_by_table t k d lt less j e from lj =
         let h = (table t d lt).after j e from lj in
         elim (cases_lt (key (get_or cells j e)) k) [
-          | inl low ↦ let up = rises lowest shift (key (get_or cells j e)) k (omega (arith, low)) in absurd (omega (arith, h, less, up))
+          | inl low ↦
+              let up = rises lowest shift (key (get_or cells j e)) k (omega (arith, low)) in
+              absurd (omega (arith, h, less, up))
           | inr not ↦ not
         ]
 

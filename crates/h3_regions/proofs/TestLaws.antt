@@ -28,7 +28,9 @@ module _ {X : Type 0} (p : X → Bool) (P : X → Type 0) (decides : (a : X) →
 
   any_false : (xs : List X) → ((a : X) → Contains xs a → ¬ P a) → list_any p xs ≡ false
   any_false xs h =
-      list_any_none p xs (λ k d lt. not_true (p (get_or xs k d)) (λ t. h (get_or xs k d) (Contains-get_or xs k d lt) ((decides (get_or xs k d)).0 t)))
+      list_any_none p xs (λ k d lt.
+      not_true (p (get_or xs k d))
+      (λ t. h (get_or xs k d) (Contains-get_or xs k d lt) ((decides (get_or xs k d)).0 t)))
 
   any_from : (xs : List X) → list_any p xs ≡ true → (a : X) × Contains xs a × P a
   any_from xs t = let w = Any-from_list_any p xs t in (w.1, (w.0, w.2, w.3), (decides w.1).0 w.4)
@@ -68,7 +70,9 @@ module _ (found : AncestorsAreFound) (cells : List Address) (x : Address) where
 pub at_most_decides : (m n : ℕ) → (nat_le m n ≡ true) ↔ (m ≤ n)
 at_most_decides m n = (leb-true m n, le-leb m n)
 
-module _ (found : AncestorsAreFound) (tree : CellsFormTrees) (intervals : CellsFormIntervals) (cells : List Address) (region : IsRegion cells) (x : Address) (valid : IsCell x) (i : ℕ) (split : IsFirstPlace cells (lowest_key x) i) where
+module _ (found : AncestorsAreFound) (tree : CellsFormTrees) (intervals : CellsFormIntervals) (cells : List Address)
+    (region : IsRegion cells) (x : Address) (valid : IsCell x) (i : ℕ)
+    (split : IsFirstPlace cells (lowest_key x) i) where
   member_valid : (a : Address) → Contains cells a → IsCell a
   member_valid a m = subst IsCell m.2 (region.valid m.0 a m.1)
 
@@ -146,7 +150,8 @@ module _ (found : AncestorsAreFound) (tree : CellsFormTrees) (intervals : CellsF
 
     pub low_covers_none : key b < key x → is_covered cells x ≡ false
     low_covers_none low =
-        covered_false found cells x (λ a m above. (let w = within intervals b x b_valid valid (above_is a m above) in omega (arith, low, w.0)))
+        covered_false found cells x
+        (λ a m above. (let w = within intervals b x b_valid valid (above_is a m above) in omega (arith, low, w.0)))
 
     -- where any stands below x, what stands there does
     pub told_below : (answer : Bool) → (answer ≡ true) ↔ (key b ≤ key x) → answer ≡ has_below cells x

@@ -74,7 +74,8 @@ module _ (areas : List (Address × ℕ)) (listed : AreListed areas) where
       omega (arith, h, same, le)
 
   -- half of a search: what is sought stays between
-  pub halved : (number first size h passed : ℕ) (p : Address × ℕ) → h + h ≤ size → h < size → first + size ≤ length areas
+  pub halved : (number first size h passed : ℕ) (p : Address × ℕ) → h + h ≤ size → h < size
+      → first + size ≤ length areas
       → p ≡ get_or areas (first + h) p → passed ≡ from_bool (nat_lt (number_of p.0) number)
       → AllWithin (λ q. number_of q.0 < number) areas 0 first
       → AllWithin (λ q. number ≤ number_of q.0) areas (first + size) (length areas)
@@ -253,7 +254,8 @@ module _ (tree : CellsFormTrees) (intervals : CellsFormIntervals) (unique : Numb
         | inl less ↦
             let c = coarsest_from found areas x pair.1 (omega (arith, less, coarse, valid.coarse)) in
             absurd
-            (missing ((inv.each pair.1).1 (inl (record { by = c.0; member = c.1; above = c.2; coarser = omega (arith, less, c.3) }))))
+            (missing ((inv.each pair.1).1
+            (inl (record { by = c.0; member = c.1; above = c.2; coarser = omega (arith, less, c.3) }))))
         | inr not ↦ omega (arith, not, level_le)
       ]
 
@@ -300,7 +302,8 @@ module _ (tree : CellsFormTrees) (intervals : CellsFormIntervals) (unique : Numb
         run = run_more;
         each = λ n. rw grown (
           (λ k. elim (Contains-push_cases (take count numbers) pair.1 n k) [
-            | inl old ↦ elim ((inv.each n).0 old) [ inl above ↦ inl above | inr h ↦ inr (h.0, h.1, omega (arith, h.2), h.3) ]
+            | inl old ↦
+                elim ((inv.each n).0 old) [ inl above ↦ inl above | inr h ↦ inr (h.0, h.1, omega (arith, h.2), h.3) ]
             | inr e ↦ inr (place, inv.from, omega arith, ap (λ p. p.1) (here (x, n)) ∙ e)
           ]),
           (λ h. elim h [
@@ -318,7 +321,8 @@ module _ (tree : CellsFormTrees) (intervals : CellsFormIntervals) (unique : Numb
         );
         in_order =
             rw grown
-            (pairs_append (IsBefore areas x) (take count numbers) (pair.1 ∷ []) inv.in_order one_pair (λ m n k l. subst (IsBefore areas x m) (one_member pair.1 n l) (last m k)));
+            (pairs_append (IsBefore areas x) (take count numbers) (pair.1 ∷ []) inv.in_order one_pair
+            (λ m n k l. subst (IsBefore areas x m) (one_member pair.1 n l) (last m k)));
       }
 
   -- ---- the end of the pairs with one cell
@@ -439,7 +443,8 @@ none_between areas x r from to count numbers le end w =
     }
 
 -- all resolutions up to the cell's own are done
-pub all_written : (tree : CellsFormTrees) (areas : List (Address × ℕ)) (x : Address) (r place count : ℕ) (numbers : List ℕ)
+pub all_written : (tree : CellsFormTrees) (areas : List (Address × ℕ)) (x : Address) (r place count : ℕ)
+    (numbers : List ℕ)
     → resolution x < r → IsWritten areas x r place count numbers → AreAreasOf areas x (take count numbers)
 all_written tree areas x r place count numbers done w = record {
   each = λ n. (

@@ -13,8 +13,8 @@ count_in_area areas cells n = count_by (λ x. lies_in areas x n) cells
 abbrev pub count_in_none : List (Address × ℕ) → List Address → ℕ
 count_in_none areas cells = count_by (λ x. not (is_covered (map (λ p. p.0) areas) x)) cells
 
--- AreAreaCounts areas cells counts none: these are the counts of areas, by their numbers, and this is how many lie in none,
--- of the cells of a list; so each place is counted once
+-- AreAreaCounts areas cells counts none: these are the counts of areas, by their numbers, and this is how many lie in
+-- none, of the cells of a list; so each place is counted once
 pub record AreAreaCounts (areas : List (Address × ℕ)) (cells : List Address) (counts : List ℕ) (none : ℕ) : Type 0 where
   pub each : counts ≡ map (count_in_area areas cells) (range_with_len 0 (length counts))
   pub others : none ≡ count_in_none areas cells

@@ -11,8 +11,8 @@ count_in zone cells = count_by (λ x. is_ancestor zone x) cells
 abbrev pub count_outside : List Address → List Address → ℕ
 count_outside zones cells = count_by (λ x. not (is_covered zones x)) cells
 
--- these are the counts of zones, in the order of the zones, and this is how many have none, of the places of a list; so each
--- place is counted once
+-- these are the counts of zones, in the order of the zones, and this is how many have none, of the places of a list; so
+-- each place is counted once
 pub record AreCounts (zones cells : List Address) (counts : List ℕ) (others : ℕ) : Type 0 where
   pub each : counts ≡ map (λ zone. count_in zone cells) zones
   pub none : others ≡ count_outside zones cells

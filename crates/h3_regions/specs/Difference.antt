@@ -20,7 +20,8 @@ has_below cells x = list_any (λ c. is_ancestor x c) cells
 unfoldable pub left_of : List Address → ℕ → Address → List Address
 left_of others zero c = if is_covered others c then [] else (c ∷ [])
 left_of others (suc n) c =
-    if is_covered others c then [] else (if has_below others c then flat_map (left_of others n) (children c) else (c ∷ []))
+    if is_covered others c then []
+    else (if has_below others c then flat_map (left_of others n) (children c) else (c ∷ []))
 
 -- the same of the cells of a list, one after another
 unfoldable pub left_of_all : List Address → List Address → List Address

@@ -20,11 +20,13 @@ abbrev all_children : List Address
 all_children = hexagon_children (3 ∷ 0 ∷ 6 ∷ 1 ∷ 5 ∷ 2 ∷ 4 ∷ [])
 
 -- a cell without one of its children is the others, without itself nothing
-hexagon_less_one : difference (base_cell 20 ∷ []) (hexagon_children (2 ∷ [])) ≡ hexagon_children (0 ∷ 1 ∷ 3 ∷ 4 ∷ 5 ∷ 6 ∷ [])
+hexagon_less_one : difference (base_cell 20 ∷ []) (hexagon_children (2 ∷ []))
+    ≡ hexagon_children (0 ∷ 1 ∷ 3 ∷ 4 ∷ 5 ∷ 6 ∷ [])
 unfolding difference compacted cells_up_to cells_of descendants paths
 hexagon_less_one = refl
 
-pentagon_less_one : difference (base_cell 4 ∷ []) (pentagon_children (2 ∷ [])) ≡ pentagon_children (0 ∷ 3 ∷ 4 ∷ 5 ∷ 6 ∷ [])
+pentagon_less_one : difference (base_cell 4 ∷ []) (pentagon_children (2 ∷ []))
+    ≡ pentagon_children (0 ∷ 3 ∷ 4 ∷ 5 ∷ 6 ∷ [])
 unfolding difference compacted cells_up_to cells_of descendants paths
 pentagon_less_one = refl
 
@@ -41,7 +43,8 @@ shared_whole : intersection all_children (base_cell 20 ∷ []) ≡ base_cell 20 
 unfolding intersection compacted cells_up_to cells_of descendants paths
 shared_whole = refl
 
-shared_part : intersection (base_cell 20 ∷ base_cell 4 ∷ []) (hexagon_children (3 ∷ 1 ∷ [])) ≡ hexagon_children (1 ∷ 3 ∷ [])
+shared_part : intersection (base_cell 20 ∷ base_cell 4 ∷ []) (hexagon_children (3 ∷ 1 ∷ []))
+    ≡ hexagon_children (1 ∷ 3 ∷ [])
 unfolding intersection compacted cells_up_to cells_of descendants paths
 shared_part = refl
 

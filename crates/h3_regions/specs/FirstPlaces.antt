@@ -10,8 +10,8 @@ use Rattle.h3_regions.specs.Zones.{IsZones}
 abbrev pub slot_of : ℕ → ℕ → ℕ → ℕ
 slot_of lowest shift k = (k - lowest) / 2 ^ shift
 
--- IsFirstInSlot cells lowest shift t i: i is the place of the first cell whose slot is t or more, or the end where there
--- is none
+-- IsFirstInSlot cells lowest shift t i: i is the place of the first cell whose slot is t or more, or the end where
+-- there is none
 pub record IsFirstInSlot (cells : List Address) (lowest shift t i : ℕ) : Type 0 where
   pub within : i ≤ length cells
   pub before : AllWithin (λ c. slot_of lowest shift (post_order_key c) < t) cells 0 i
@@ -35,8 +35,8 @@ pub record IsShift (span most s : ℕ) : Type 0 where
   pub least : (t : ℕ) → t < s → most < span / 2 ^ t
 
 -- IsDivision cells room lowest shift slots: how a table of zones with so much room divides their keys: from the first
--- zone's on, into as many slots as there are up to that of the last zone, and one more, each as small as there is room for
--- them. With no zones, with 2 ^ 32 or more, or with room for fewer than two there is no slot
+-- zone's on, into as many slots as there are up to that of the last zone, and one more, each as small as there is room
+-- for them. With no zones, with 2 ^ 32 or more, or with room for fewer than two there is no slot
 pub record IsDivision (cells : List Address) (room lowest shift slots : ℕ) : Type 0 where
   pub some : 0 < slots ↔ ((0 < length cells) × (length cells < 2 ^ 32) × (1 < room))
   pub lowest_is : 0 < slots → (d : Address) → lowest ≡ post_order_key (slice_index_or cells 0 d)

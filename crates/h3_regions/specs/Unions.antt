@@ -10,8 +10,8 @@ pub record HasAncestor (cells : List Address) (x : Address) : Type 0 where
   pub member : Contains cells by
   pub above : IsAncestor by x
 
--- of cells that may repeat and overlap some are chosen, of which no two overlap, so that each cell has one of them above
--- it or is one; cited by private contracts and proofs alone
+-- of cells that may repeat and overlap some are chosen, of which no two overlap, so that each cell has one of them
+-- above it or is one; cited by private contracts and proofs alone
 pub record IsCoarsest (kept cells : List Address) : Type 0 where
   pub chosen : (x : Address) → Contains kept x → Contains cells x
   pub all : (x : Address) → Contains cells x → HasAncestor kept x

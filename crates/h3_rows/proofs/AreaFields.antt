@@ -61,11 +61,15 @@ not_quote mark b quote is = grind (arith, nat_tests)
 module _ (mark : ℕ) (quotes : Bool) (other : ℕ) (asked : Bool) (quote : (34 == mark) ≡ false) where
   asked_more : (inside : Bool) (b : ℕ) (bs : List ℕ) → IsAsked quotes other asked inside (b ∷ bs)
       → IsAsked quotes other asked (turned quotes inside b) bs
-  asked_more inside b bs h is = let (uncut, closed) = h is in ((both ((b == other) && not inside) (is_uncut other quotes (turned quotes inside b) bs) uncut).1, closed)
+  asked_more inside b bs h is =
+      let (uncut, closed) = h is in
+      ((both ((b == other) && not inside) (is_uncut other quotes (turned quotes inside b) bs) uncut).1, closed)
 
   asked_first : (inside : Bool) (b : ℕ) (bs : List ℕ) → IsAsked quotes other asked inside (b ∷ bs) → asked ≡ true
       → ((b == other) && not inside) ≡ false
-  asked_first inside b bs h is = let (uncut, closed) = h is in (both ((b == other) && not inside) (is_uncut other quotes (turned quotes inside b) bs) uncut).0
+  asked_first inside b bs h is =
+      let (uncut, closed) = h is in
+      (both ((b == other) && not inside) (is_uncut other quotes (turned quotes inside b) bs) uncut).0
 
   -- a byte in front of the first piece
   first_grows : (inside : Bool) (b : ℕ) (ps : List Piece) → ((b == mark) && not inside) ≡ false
@@ -82,14 +86,23 @@ module _ (mark : ℕ) (quotes : Bool) (other : ℕ) (asked : Bool) (quote : (34 
   cut_pieces inside [] h = ((refl, refl, λ is. (refl, (h is).1)), tt)
   cut_pieces inside (b ∷ bs) h =
       let next = turned quotes inside b in
-      let go : (t : Bool) → ((b == mark) && not inside) ≡ t → ArePieces mark quotes other asked inside (if t then ([], false) ∷ cut mark quotes false bs else with_first b (cut mark quotes next bs)) =
-      λ t. elim t as (λ t. ((b == mark) && not inside) ≡ t → ArePieces mark quotes other asked inside (if t then ([], false) ∷ cut mark quotes false bs else with_first b (cut mark quotes next bs))) [
+      let go : (t : Bool) → ((b == mark) && not inside) ≡ t
+      → ArePieces mark quotes other asked inside
+      (if t then ([], false) ∷ cut mark quotes false bs else with_first b (cut mark quotes next bs)) =
+      λ t.
+      elim t as
+      (λ t.
+      ((b == mark) && not inside) ≡ t
+      → ArePieces mark quotes other asked inside (if t then ([], false) ∷ cut mark quotes false bs
+      else with_first b (cut mark quotes next bs))) [
         | true ↦ λ is. (
             let (same, outside) = not_inside (b == mark) inside is in
             let calm : (quotes && (b == 34)) ≡ false =
             ap (λ x. quotes && x) (not_quote mark b quote same) ∙ and_false quotes in
-            let stays : next ≡ false = rw calm outside in
-            ((refl, outside, λ is. (refl, refl)), cut_pieces false bs (subst (λ o. IsAsked quotes other asked o bs) stays (asked_more inside b bs h))))
+            let stays : next ≡ false = rw calm outside in (
+              (refl, outside, λ is. (refl, refl)),
+              cut_pieces false bs (subst (λ o. IsAsked quotes other asked o bs) stays (asked_more inside b bs h)),
+            ))
         | false ↦
             λ is. first_grows inside b (cut mark quotes next bs) is (asked_first inside b bs h)
             (cut_pieces next bs (asked_more inside b bs h))
@@ -126,7 +139,8 @@ module _ (mark : ℕ) (quotes : Bool) (other : ℕ) (asked : Bool) (quote : (34 
 -- ---- blanks
 
 no_quote_at : (b : ℕ) (t : Bool) → (b == 34) ≡ t → is_blank b ≡ true → t ≡ false
-no_quote_at b true is blank = let never : is_blank 34 ≡ true = ap is_blank (sym (eqb-true b 34 is)) ∙ blank in absurd (cc never)
+no_quote_at b true is blank =
+    let never : is_blank 34 ≡ true = ap is_blank (sym (eqb-true b 34 is)) ∙ blank in absurd (cc never)
 no_quote_at b false is blank = refl
 
 blank_stays : (quotes inside : Bool) (b : ℕ) → is_blank b ≡ true → turned quotes inside b ≡ inside
@@ -146,8 +160,11 @@ lead_uncut : (mark : ℕ) (quotes : Bool) (bytes : List ℕ) → is_uncut mark q
     → is_uncut mark quotes false (without_leading_blanks bytes) ≡ true
 lead_uncut mark quotes [] h = refl
 lead_uncut mark quotes (b ∷ bs) h =
-    let go : (t : Bool) → is_blank b ≡ t → is_uncut mark quotes false (if t then without_leading_blanks bs else b ∷ bs) ≡ true =
-    λ t. elim t as (λ t. is_blank b ≡ t → is_uncut mark quotes false (if t then without_leading_blanks bs else b ∷ bs) ≡ true) [
+    let go : (t : Bool) → is_blank b ≡ t
+    → is_uncut mark quotes false (if t then without_leading_blanks bs else b ∷ bs) ≡ true =
+    λ t.
+    elim t as
+    (λ t. is_blank b ≡ t → is_uncut mark quotes false (if t then without_leading_blanks bs else b ∷ bs) ≡ true) [
       | true ↦
           λ is. lead_uncut mark quotes bs (subst (λ o. is_uncut mark quotes o bs ≡ true) (blank_stays quotes false b is)
           (both ((b == mark) && not false) (is_uncut mark quotes (turned quotes false b) bs) h).1)
@@ -159,8 +176,11 @@ lead_closed : (quotes : Bool) (bytes : List ℕ) → inside_after quotes false b
     → inside_after quotes false (without_leading_blanks bytes) ≡ false
 lead_closed quotes [] h = refl
 lead_closed quotes (b ∷ bs) h =
-    let go : (t : Bool) → is_blank b ≡ t → inside_after quotes false (if t then without_leading_blanks bs else b ∷ bs) ≡ false =
-    λ t. elim t as (λ t. is_blank b ≡ t → inside_after quotes false (if t then without_leading_blanks bs else b ∷ bs) ≡ false) [
+    let go : (t : Bool) → is_blank b ≡ t
+    → inside_after quotes false (if t then without_leading_blanks bs else b ∷ bs) ≡ false =
+    λ t.
+    elim t as
+    (λ t. is_blank b ≡ t → inside_after quotes false (if t then without_leading_blanks bs else b ∷ bs) ≡ false) [
       | true ↦
           λ is. lead_closed quotes bs (ap (λ o. inside_after quotes o bs) (sym (blank_stays quotes false b is)) ∙ h)
       | false ↦ λ is. h
@@ -172,8 +192,15 @@ lead_split : (bytes : List ℕ)
     → (front : List ℕ) × (list_all is_blank front ≡ true) × (bytes ≡ front ++ without_leading_blanks bytes)
 lead_split [] = ([], refl, refl)
 lead_split (b ∷ bs) =
-    let go : (t : Bool) → is_blank b ≡ t → (front : List ℕ) × (list_all is_blank front ≡ true) × (b ∷ bs ≡ front ++ (if t then without_leading_blanks bs else b ∷ bs)) =
-    λ t. elim t as (λ t. is_blank b ≡ t → (front : List ℕ) × (list_all is_blank front ≡ true) × (b ∷ bs ≡ front ++ (if t then without_leading_blanks bs else b ∷ bs))) [
+    let go : (t : Bool) → is_blank b ≡ t
+    → (front : List ℕ) × (list_all is_blank front ≡ true)
+    × (b ∷ bs ≡ front ++ (if t then without_leading_blanks bs else b ∷ bs)) =
+    λ t.
+    elim t as
+    (λ t.
+    is_blank b ≡ t
+    → (front : List ℕ) × (list_all is_blank front ≡ true)
+    × (b ∷ bs ≡ front ++ (if t then without_leading_blanks bs else b ∷ bs))) [
       | true ↦ λ is. (let (front, all, split) = lead_split bs in (b ∷ front, rw (is, all) refl, ap (λ l. b ∷ l) split))
       | false ↦ λ is. ([], refl, refl)
     ] in
@@ -223,8 +250,15 @@ trim_closed quotes bytes h = trail_closed quotes (without_leading_blanks bytes) 
 lead_again : (bytes : List ℕ) → without_leading_blanks (without_leading_blanks bytes) ≡ without_leading_blanks bytes
 lead_again [] = refl
 lead_again (b ∷ bs) =
-    let go : (t : Bool) → is_blank b ≡ t → without_leading_blanks (if t then without_leading_blanks bs else b ∷ bs) ≡ (if t then without_leading_blanks bs else b ∷ bs) =
-    λ t. elim t as (λ t. is_blank b ≡ t → without_leading_blanks (if t then without_leading_blanks bs else b ∷ bs) ≡ (if t then without_leading_blanks bs else b ∷ bs)) [
+    let go : (t : Bool) → is_blank b ≡ t
+    → without_leading_blanks (if t then without_leading_blanks bs else b ∷ bs)
+    ≡ (if t then without_leading_blanks bs else b ∷ bs) =
+    λ t.
+    elim t as
+    (λ t.
+    is_blank b ≡ t
+    → without_leading_blanks (if t then without_leading_blanks bs else b ∷ bs)
+    ≡ (if t then without_leading_blanks bs else b ∷ bs)) [
       | true ↦ λ is. lead_again bs
       | false ↦ λ is. rw is refl
     ] in
@@ -236,7 +270,9 @@ trail_again bytes =
     ∙ ap reverse (lead_again (reverse bytes))
 
 lead_shorter : (bytes : List ℕ) → length (without_leading_blanks bytes) ≤ length bytes
-lead_shorter bytes = let (front, all, split) = lead_split bytes in omega (arith, ap length split, length-append front (without_leading_blanks bytes))
+lead_shorter bytes =
+    let (front, all, split) = lead_split bytes in
+    omega (arith, ap length split, length-append front (without_leading_blanks bytes))
 
 first_solid : (x : ℕ) (xs : List ℕ) (t : Bool) → is_blank x ≡ t → without_leading_blanks (x ∷ xs) ≡ x ∷ xs → t ≡ false
 first_solid x xs true is h =
@@ -294,21 +330,38 @@ module _ (separator : ℕ) (quote : (34 == separator) ≡ false) where
   well_cut start after inside [] h = (refl, tt)
   well_cut start after inside (b ∷ bs) h =
       let next = not inside && (b == separator || (start && is_blank b)) in
-      let plain : (t : Bool) → (b == 34) ≡ t → (if t then (if inside || start || after then opens_well separator false true (not inside) bs else false) else opens_well separator next false inside bs) ≡ true
+      let plain : (t : Bool) → (b == 34) ≡ t
+      → (if t then (if inside || start || after then opens_well separator false true (not inside) bs else false)
+      else opens_well separator next false inside bs)
+      ≡ true
       → OpenWell separator start after inside
       (with_first b (cut separator true (if t then not inside else inside) bs)) =
-      λ t. elim t as (λ t. (b == 34) ≡ t → (if t then (if inside || start || after then opens_well separator false true (not inside) bs else false) else opens_well separator next false inside bs) ≡ true
+      λ t.
+      elim t as (λ t.
+      (b == 34) ≡ t
+      → (if t
+      then (if inside || start || after then opens_well separator false true (not inside) bs else false)
+      else opens_well separator next false inside bs)
+      ≡ true
       → OpenWell separator start after inside
       (with_first b (cut separator true (if t then not inside else inside) bs))) [
         | true ↦ λ is h. (
             let (may, more) = opens_if (inside || start || after) (opens_well separator false true (not inside) bs) h in
-            well_grows start after inside b (cut separator true (not inside) bs) is may (well_cut false true (not inside) bs more))
+            well_grows start after inside b (cut separator true (not inside) bs) is may
+            (well_cut false true (not inside) bs more))
         | false ↦
             λ is h. well_goes_on start after inside b (cut separator true inside bs) is
             (well_cut next false inside bs h)
       ] in
-      let marked : (t : Bool) → ((b == separator) && not inside) ≡ t → OpenWell separator start after inside (if t then ([], false) ∷ cut separator true false bs else with_first b (cut separator true (turned true inside b) bs)) =
-      λ t. elim t as (λ t. ((b == separator) && not inside) ≡ t → OpenWell separator start after inside (if t then ([], false) ∷ cut separator true false bs else with_first b (cut separator true (turned true inside b) bs))) [
+      let marked : (t : Bool) → ((b == separator) && not inside) ≡ t
+      → OpenWell separator start after inside (if t then ([], false) ∷ cut separator true false bs
+      else with_first b (cut separator true (turned true inside b) bs)) =
+      λ t.
+      elim t as
+      (λ t.
+      ((b == separator) && not inside) ≡ t
+      → OpenWell separator start after inside (if t then ([], false) ∷ cut separator true false bs
+      else with_first b (cut separator true (turned true inside b) bs))) [
         | true ↦ λ is. (
             let (same, outside) = not_inside (b == separator) inside is in
             let calm : (b == 34) ≡ false = not_quote separator b quote same in
@@ -330,8 +383,13 @@ module _ (separator : ℕ) (quote : (34 == separator) ≡ false) where
       → opens_well separator true false false (without_leading_blanks bytes) ≡ true
   well_led [] h = refl
   well_led (b ∷ bs) h =
-      let go : (t : Bool) → is_blank b ≡ t → opens_well separator true false false (if t then without_leading_blanks bs else b ∷ bs) ≡ true =
-      λ t. elim t as (λ t. is_blank b ≡ t → opens_well separator true false false (if t then without_leading_blanks bs else b ∷ bs) ≡ true) [
+      let go : (t : Bool) → is_blank b ≡ t
+      → opens_well separator true false false (if t then without_leading_blanks bs else b ∷ bs) ≡ true =
+      λ t.
+      elim t as
+      (λ t.
+      is_blank b ≡ t
+      → opens_well separator true false false (if t then without_leading_blanks bs else b ∷ bs) ≡ true) [
         | true ↦ λ is. (
             let calm : (b == 34) ≡ false = no_quote_at b (b == 34) refl is in
             let next : opens_well separator (b == separator || true) false false bs ≡ true = rw (calm, is) at h in
@@ -345,11 +403,20 @@ module _ (separator : ℕ) (quote : (34 == separator) ≡ false) where
   well_front start after inside [] ys h = refl
   well_front start after inside (x ∷ xs) ys h =
       let next = not inside && (x == separator || (start && is_blank x)) in
-      let go : (t : Bool) → (if t then (if inside || start || after then opens_well separator false true (not inside) (xs ++ ys) else false) else opens_well separator next false inside (xs ++ ys)) ≡ true
+      let go : (t : Bool)
+      → (if t then (if inside || start || after then opens_well separator false true (not inside) (xs ++ ys) else false)
+      else opens_well separator next false inside (xs ++ ys))
+      ≡ true
       → (if t then (if inside || start || after then opens_well separator false true (not inside) xs else false)
       else opens_well separator next false inside xs)
       ≡ true =
-      λ t. elim t as (λ t. (if t then (if inside || start || after then opens_well separator false true (not inside) (xs ++ ys) else false) else opens_well separator next false inside (xs ++ ys)) ≡ true
+      λ t.
+      elim t as (λ t.
+      (if t
+      then (if inside || start
+      || after then opens_well separator false true (not inside) (xs ++ ys) else false)
+      else opens_well separator next false inside (xs ++ ys))
+      ≡ true
       → (if t then (if inside || start || after then opens_well separator false true (not inside) xs else false)
       else opens_well separator next false inside xs)
       ≡ true) [
@@ -393,7 +460,8 @@ module _ (separator : ℕ) (quote : (34 == separator) ≡ false) where
 -- ---- a byte order mark
 
 -- a property that bytes keep without a first byte that is no quote
-module _ (quotes : Bool) (P : List ℕ → Type 0) (less : (b : ℕ) (bs : List ℕ) → turned quotes false b ≡ false → P (b ∷ bs) → P bs) where
+module _ (quotes : Bool) (P : List ℕ → Type 0)
+    (less : (b : ℕ) (bs : List ℕ) → turned quotes false b ≡ false → P (b ∷ bs) → P bs) where
   calm_is : (b n : ℕ) → (b == n) ≡ true → (n == 34) ≡ false → turned quotes false b ≡ false
   calm_is b n is other =
       let calm : (quotes && (b == 34)) ≡ false =
@@ -446,7 +514,10 @@ faultless false false false false w x y z h = (refl, refl, refl)
 
 no_return : (quotes : Bool) (bytes : List ℕ) → (quotes && not (is_uncut 13 true false bytes)) ≡ false → quotes ≡ true
     → is_uncut 13 quotes false bytes ≡ true
-no_return true bytes h is = let go : (t : Bool) → (not t) ≡ false → t ≡ true = λ t. elim t as (λ t. (not t) ≡ false → t ≡ true) [ true ↦ λ h. refl | false ↦ λ h. absurd (cc) ] in go (is_uncut 13 true false bytes) h
+no_return true bytes h is =
+    let go : (t : Bool) → (not t) ≡ false → t ≡ true =
+    λ t. elim t as (λ t. (not t) ≡ false → t ≡ true) [ true ↦ λ h. refl | false ↦ λ h. absurd (cc) ] in
+    go (is_uncut 13 true false bytes) h
 no_return false bytes h is = absurd (cc)
 
 all_sound : (quotes sound : Bool) → (quotes && not sound) ≡ false → quotes ≡ true → sound ≡ true
@@ -523,8 +594,13 @@ module _ (table : Table) (quote : (34 == table.form.separator) ≡ false) where
   name_is : (row name : List ℕ) (k : ℕ) → IsRow row → name_at table.form k row ≡ Some name
       → IsOneField separator quotes name
   name_is row name k r is =
-      let go : (o : Option (List ℕ)) → piece_at k (cut separator quotes false row) ≡ o → option_map trimmed o ≡ Some name → IsOneField separator quotes name =
-      λ o. elim o as (λ o. piece_at k (cut separator quotes false row) ≡ o → option_map trimmed o ≡ Some name → IsOneField separator quotes name) [
+      let go : (o : Option (List ℕ)) → piece_at k (cut separator quotes false row) ≡ o
+      → option_map trimmed o ≡ Some name → IsOneField separator quotes name =
+      λ o.
+      elim o as
+      (λ o.
+      piece_at k (cut separator quotes false row) ≡ o → option_map trimmed o ≡ Some name
+      → IsOneField separator quotes name) [
         | None ↦ λ found named. absurd (cc)
         | Some field ↦
             λ found named. subst (IsOneField separator quotes) (ap (λ o. unwrap_or o name) named)
@@ -594,19 +670,37 @@ module _ (table : Table) (quote : (34 == table.form.separator) ≡ false) where
       header_fields n (read_of n (row_body line)) r (table_columns table (read_of n (row_body line))) entries is
   filled_fields n line (Some columns) r entries is =
       let row = read_of n (row_body line) in
-      cell_fields table.content n row columns.name r (cell_read table.form.says (row_cell table.form n columns.cell (row_body line)))
+      cell_fields table.content n row columns.name r
+      (cell_read table.form.says (row_cell table.form n columns.cell (row_body line)))
       (name_at table.form columns.name row) refl entries is
 
   found_fields : (n : ℕ) (columns : Option TableColumns) (p : Piece) → IsPiece 10 quotes 0 false false p
       → (entries : List Entry) → (named_found table n columns p).cells ≡ Ok entries → AreFields entries
   found_fields n columns p piece entries is =
-      let empty : (t : Bool) → IsRow (read_of n (row_body p.0)) → (let found : Found = if t then record { cells = Ok []; columns = columns } else filled_found table n p.0 columns in found).cells ≡ Ok entries → AreFields entries =
-      λ t. elim t as (λ t. IsRow (read_of n (row_body p.0)) → (let found : Found = if t then record { cells = Ok []; columns = columns } else filled_found table n p.0 columns in found).cells ≡ Ok entries → AreFields entries) [
+      let empty : (t : Bool) → IsRow (read_of n (row_body p.0))
+      → (let found : Found =
+      if t then record { cells = Ok []; columns = columns } else filled_found table n p.0 columns in found).cells
+      ≡ Ok entries
+      → AreFields entries =
+      λ t.
+      elim t as
+      (λ t.
+      IsRow (read_of n (row_body p.0))
+      → (let found : Found =
+      if t then record { cells = Ok []; columns = columns }
+      else filled_found table n p.0 columns in found).cells
+      ≡ Ok entries
+      → AreFields entries) [
         | true ↦ λ r is. same_fields [] entries no_fields (ap from_ok is)
         | false ↦ λ r is. filled_fields n p.0 columns r entries is
       ] in
-      let go : (m : Option RowFault) → malformed table.form n p ≡ m → (found_unless m table n columns p.0).cells ≡ Ok entries → AreFields entries =
-      λ m. elim m as (λ m. malformed table.form n p ≡ m → (found_unless m table n columns p.0).cells ≡ Ok entries → AreFields entries) [
+      let go : (m : Option RowFault) → malformed table.form n p ≡ m
+      → (found_unless m table n columns p.0).cells ≡ Ok entries → AreFields entries =
+      λ m.
+      elim m as
+      (λ m.
+      malformed table.form n p ≡ m → (found_unless m table n columns p.0).cells ≡ Ok entries
+      → AreFields entries) [
         | Some fault ↦ λ bad is. absurd (cc)
         | None ↦ λ good is. empty _ (row_is n p piece good) is
       ] in
@@ -672,7 +766,9 @@ module _ (P : List ℕ → Type 0) (quotes : Bool) where
   names_hold names [] h k = h
   names_hold names (c ∷ cs) h k =
       let go : (place : Option ℕ) → All P (with_place place names c.1) =
-      λ place. elim place as (λ place. All P (with_place place names c.1)) [ None ↦ All-push P names c.1 h (All-head (λ (c : NamedCell). P c.1) c cs k) | Some j ↦ h ] in
+      λ place.
+      elim place as (λ place. All P (with_place place names c.1))
+      [ None ↦ All-push P names c.1 h (All-head (λ (c : NamedCell). P c.1) c cs k) | Some j ↦ h ] in
       names_hold (areas.with_name quotes names c.1) cs (go (place_of quotes (name_text quotes c.1) names))
       (All-tail (λ (c : NamedCell). P c.1) c cs k)
 

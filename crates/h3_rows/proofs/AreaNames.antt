@@ -38,15 +38,21 @@ once_more quotes names name once none k d h =
     let is : get_or (names ++ name ∷ []) k d ≡ name =
     ap (λ j. get_or (names ++ name ∷ []) j d) same ∙ get_or-append-add names (name ∷ []) 0 d in
     let at : 0 + length names ≡ k = omega (arith, same) in
-    ap placed is ∙ position_new (λ n. bytes_eq (name_text quotes name) (name_text quotes n)) 0 names name none ∙ ap (λ b. cond b (Some (0 + length names)) None) (same_bytes (name_text quotes name)) ∙ ap Some at))
+    ap placed is ∙ position_new (λ n. bytes_eq (name_text quotes name) (name_text quotes n)) 0 names name none
+    ∙ ap (λ b. cond b (Some (0 + length names)) None) (same_bytes (name_text quotes name)) ∙ ap Some at))
     (cases_lt k (length names))
 
 once_after : (quotes : Bool) (names : List (List ℕ)) (cells : List NamedCell) → StandOnce quotes names
     → StandOnce quotes (names_after quotes names cells)
 once_after quotes names [] once = once
 once_after quotes names (c ∷ cs) once =
-    let go : (place : Option ℕ) → place_of quotes (name_text quotes c.1) names ≡ place → StandOnce quotes (with_place place names c.1) =
-    λ place. elim place as (λ place. place_of quotes (name_text quotes c.1) names ≡ place → StandOnce quotes (with_place place names c.1)) [ Some k ↦ λ is. once | None ↦ λ is. once_more quotes names c.1 once is ] in
+    let go : (place : Option ℕ) → place_of quotes (name_text quotes c.1) names ≡ place
+    → StandOnce quotes (with_place place names c.1) =
+    λ place.
+    elim place as
+    (λ place.
+    place_of quotes (name_text quotes c.1) names ≡ place → StandOnce quotes (with_place place names c.1))
+    [ Some k ↦ λ is. once | None ↦ λ is. once_more quotes names c.1 once is ] in
     once_after quotes (with_name quotes names c.1) cs (go (place_of quotes (name_text quotes c.1) names) refl)
 
 pub names_stand_once : NamesStandOnce
@@ -121,8 +127,11 @@ cell_of_new quotes names (c ∷ cs) k above below =
     let first = in_area quotes all c in
     ⊎_elim
     (λ (less : k < length after). (
-    let number : number_for quotes names c.1 ≡ k = new_number quotes names c.1 k above less in
-    (c.0, contains_here first (c.0, k) (map (in_area quotes all) cs) (area_after quotes names c cs ∙ ap (λ n. (c.0, n)) number))))
+    let number : number_for quotes names c.1 ≡ k = new_number quotes names c.1 k above less in (
+      c.0,
+      contains_here first (c.0, k) (map (in_area quotes all) cs)
+          (area_after quotes names c cs ∙ ap (λ n. (c.0, n)) number),
+    )))
     (λ (more : length after ≤ k). (
     let (cell, has) = cell_of_new quotes after cs k more below in
     (cell, contains_later first (cell, k) (map (in_area quotes all) cs) has)))

@@ -21,10 +21,18 @@ pub row_of_new : (quotes : Bool) (names : List (List ℕ)) (name : List ℕ) (ro
     → rows ++ row ∷ [] ≡ with_row (place_of quotes (name_text quotes name) names) rows row
 row_of_new quotes names name rows row is =
     let text = name_text quotes name in
-    let go : (place : Option ℕ) → place_of quotes text names ≡ place → unwrap_or place (length names) ≡ length names → rows ++ row ∷ [] ≡ with_row place rows row =
-    λ place. elim place as (λ place. place_of quotes text names ≡ place → unwrap_or place (length names) ≡ length names → rows ++ row ∷ [] ≡ with_row place rows row) [
+    let go : (place : Option ℕ) → place_of quotes text names ≡ place → unwrap_or place (length names) ≡ length names
+    → rows ++ row ∷ [] ≡ with_row place rows row =
+    λ place.
+    elim place as
+    (λ place.
+    place_of quotes text names ≡ place → unwrap_or place (length names) ≡ length names
+    → rows ++ row ∷ [] ≡ with_row place rows row) [
       | None ↦ λ found same. refl
-      | Some k ↦ λ found same. (let below : k < 0 + length names = position_below (λ n. bytes_eq text (name_text quotes n)) 0 k names found in absurd (omega (arith, below, same)))
+      | Some k ↦ λ found same.
+          (let below : k < 0 + length names =
+          position_below (λ n. bytes_eq text (name_text quotes n)) 0 k names found in
+          absurd (omega (arith, below, same)))
     ] in
     go (place_of quotes text names) refl is
 
@@ -119,8 +127,13 @@ module _ (quotes : Bool) where
       let before : All (IsNew names) rest =
       all_both (IsNew put) (IsNew put) (IsNew names)
       (λ d p q. place_back e.cell names e.field (name_text quotes d.field) p) rest later later in
-      let go : (cell : Option Address) (place : Option ℕ) → place_of quotes (name_text quotes e.field) names ≡ place → All (IsNew names) (put_new cell place e rest) =
-      λ cell place. elim cell as (λ cell. place_of quotes (name_text quotes e.field) names ≡ place → All (IsNew names) (put_new cell place e rest)) [
+      let go : (cell : Option Address) (place : Option ℕ) → place_of quotes (name_text quotes e.field) names ≡ place
+      → All (IsNew names) (put_new cell place e rest) =
+      λ cell place.
+      elim cell as
+      (λ cell.
+      place_of quotes (name_text quotes e.field) names ≡ place
+      → All (IsNew names) (put_new cell place e rest)) [
         | None ↦ λ is. before
         | Some c ↦
             elim place as (λ place. place_of quotes (name_text quotes e.field) names ≡ place → All (IsNew names)
@@ -150,10 +163,18 @@ module _ (quotes : Bool) where
       let rest = new_entries put es in
       let own = name_text quotes e.field in
       let later : All (IsFirst (e ∷ es)) rest =
-      all_both (IsNew put) (IsFirst es) (IsFirst (e ∷ es)) (λ d none first. ap (λ b. if b then e.row else first_row quotes (name_text quotes d.field) es) (not_had e.cell names e.field (name_text quotes d.field) none) ∙ first) rest (are_new put es) (are_first put es) in
+      all_both (IsNew put) (IsFirst es) (IsFirst (e ∷ es))
+      (λ d none first.
+      ap (λ b. if b then e.row else first_row quotes (name_text quotes d.field) es)
+      (not_had e.cell names e.field (name_text quotes d.field) none)
+      ∙ first)
+      rest (are_new put es) (are_first put es) in
       let here : (c : Address) → e.cell ≡ Some c → IsFirst (e ∷ es) e =
-      λ c is. ap (λ o. if is_some o && bytes_eq own own then e.row else first_row quotes own es) is ∙ ap (λ b. if b then e.row else first_row quotes own es) (same_bytes own) in
-      let go : (cell : Option Address) (place : Option ℕ) → e.cell ≡ cell → All (IsFirst (e ∷ es)) (put_new cell place e rest) =
+      λ c is.
+      ap (λ o. if is_some o && bytes_eq own own then e.row else first_row quotes own es) is
+      ∙ ap (λ b. if b then e.row else first_row quotes own es) (same_bytes own) in
+      let go : (cell : Option Address) (place : Option ℕ) → e.cell ≡ cell
+      → All (IsFirst (e ∷ es)) (put_new cell place e rest) =
       λ cell place. elim cell as (λ cell. e.cell ≡ cell → All (IsFirst (e ∷ es)) (put_new cell place e rest)) [
         | None ↦ λ is. later
         | Some c ↦

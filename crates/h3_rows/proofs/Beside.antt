@@ -101,8 +101,17 @@ lines_more separator tail row line [] more u =
     ∙ ap (λ l. l ++ rows_with separator false tail row more)
     (sym (line_first separator tail row line [] u ∙ append-nil (row_with separator row (line ++ tail))))
 lines_more separator tail row line (b ∷ bs) more u =
-    let go : (t : Bool) → (b == 10) ≡ t → rows_with separator false tail row (line ++ (b ∷ (bs ++ 10 ∷ more))) ≡ rows_with separator false tail row (line ++ (b ∷ (bs ++ 10 ∷ []))) ++ rows_with separator false tail row more =
-    λ t. elim t as (λ t. (b == 10) ≡ t → rows_with separator false tail row (line ++ (b ∷ (bs ++ 10 ∷ more))) ≡ rows_with separator false tail row (line ++ (b ∷ (bs ++ 10 ∷ []))) ++ rows_with separator false tail row more) [
+    let go : (t : Bool) → (b == 10) ≡ t
+    → rows_with separator false tail row (line ++ (b ∷ (bs ++ 10 ∷ more)))
+    ≡ rows_with separator false tail row (line ++ (b ∷ (bs ++ 10 ∷ [])))
+    ++ rows_with separator false tail row more =
+    λ t.
+    elim t as
+    (λ t.
+    (b == 10) ≡ t
+    → rows_with separator false tail row (line ++ (b ∷ (bs ++ 10 ∷ more)))
+    ≡ rows_with separator false tail row (line ++ (b ∷ (bs ++ 10 ∷ [])))
+    ++ rows_with separator false tail row more) [
       | true ↦ λ is. (
           let feed : b ≡ 10 = eqb-true b 10 is in
           let first : (l : List ℕ)
@@ -118,7 +127,10 @@ lines_more separator tail row line (b ∷ bs) more u =
           ∙ ap (λ l. l ++ rows_with separator false tail row more) (sym (first (bs ++ 10 ∷ []))))
       | false ↦ λ other. (
           let next : (l : List ℕ) → line ++ (b ∷ l) ≡ (line ++ b ∷ []) ++ l = λ l. sym (append_assoc line (b ∷ []) l) in
-          ap (rows_with separator false tail row) (next (bs ++ 10 ∷ more)) ∙ lines_more separator tail row (line ++ b ∷ []) bs more (grows line b u other) ∙ ap (λ l. rows_with separator false tail row l ++ rows_with separator false tail row more) (sym (next (bs ++ 10 ∷ []))))
+          ap (rows_with separator false tail row) (next (bs ++ 10 ∷ more))
+          ∙ lines_more separator tail row (line ++ b ∷ []) bs more (grows line b u other)
+          ∙ ap (λ l. rows_with separator false tail row l ++ rows_with separator false tail row more)
+          (sym (next (bs ++ 10 ∷ []))))
     ] in
     go (b == 10) refl
 

@@ -9,7 +9,8 @@ reversed rest some =
     let last = length rest - 1 in
     let count : last + 1 ≡ length rest = omega arith in
     let split : rest ≡ take (length rest - 1) rest ++ get_or rest (length rest - 1) 0 ∷ [] =
-    sym (take_all (length rest) rest (omega arith)) ∙ ap (λ n. take n rest) (sym count) ∙ take_more rest last 0 (omega arith) in
+    sym (take_all (length rest) rest (omega arith)) ∙ ap (λ n. take n rest) (sym count)
+    ∙ take_more rest last 0 (omega arith) in
     ap reverse split ∙ reverse-append (take (length rest - 1) rest) (get_or rest (length rest - 1) 0 ∷ [])
 
 pub blank_last : (rest : List ℕ) → 1 ≤ length rest → is_blank (get_or rest (length rest - 1) 0) ≡ true

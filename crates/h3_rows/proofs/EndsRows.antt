@@ -22,7 +22,9 @@ abbrev pub nothing_last : State → Answer
 nothing_last s = written []
 
 -- what takes the rows, and how it answers them
-module _ {S V : Type 0} (qs : Bool) (taken : S → Option (List ℕ)) (failed : S → Bool) (answer_of : V → (State → Answer) → State → List Piece → Answer) (none_left : (v : V) (last : State → Answer) (s : State) → answer_of v last s [] ≡ last s)
+module _ {S V : Type 0} (qs : Bool) (taken : S → Option (List ℕ)) (failed : S → Bool)
+    (answer_of : V → (State → Answer) → State → List Piece → Answer)
+    (none_left : (v : V) (last : State → Answer) (s : State) → answer_of v last s [] ≡ last s)
     (state : V → State) (held : V → List ℕ) (out : V → S)
     (takes : V → List Piece → V → Type 0) (refused : V → List Piece → V → RunError → Type 0) (settled : V → Type 0)
     (answers : (v w : V) (ls : List Piece) → takes v ls w
@@ -51,8 +53,12 @@ module _ {S V : Type 0} (qs : Bool) (taken : S → Option (List ℕ)) (failed : 
         → EndsAtRow qs (answer_of v last (state v)) (answer_of v nothing_last (state v)) old new has e
         (sink_use taken failed (out v) (out w))
     at_row has e s =
-        let (stop, writes, of_row) = ends_at_piece qs (list_rows qs) 1114111 taken failed answer_of nothing_last (λ v s. none_left v nothing_last s) state held out takes refused settled answers same refuses empty
-        (pieces_of qs) (λ ps. ps) (λ p. p) (λ bytes ended last is. is) (λ p. length p.0) (λ p. refl) v w last none (answer_of v nothing_last (state v)) (λ ls. refl) (by_rows qs (answer_of v last (state v))) (λ bytes. refl) old new e s in
+        let (stop, writes, of_row) =
+        ends_at_piece qs (list_rows qs) 1114111 taken failed answer_of nothing_last
+        (λ v s. none_left v nothing_last s) state held out takes refused settled answers same refuses empty
+        (pieces_of qs) (λ ps. ps) (λ p. p) (λ bytes ended last is. is) (λ p. length p.0) (λ p. refl) v w last none
+        (answer_of v nothing_last (state v)) (λ ls. refl) (by_rows qs (answer_of v last (state v))) (λ bytes. refl)
+        old new e s in
         ((stop, writes), of_row nothing_last)
 
     -- either
@@ -91,8 +97,13 @@ module _ {S V : Type 0} (qs : Bool) (taken : S → Option (List ℕ)) (failed : 
       ends_early last v x old new none had has e
       (inr (ended_refused qs 1114111 takes (list_rows qs) t more rows refused settled settles refuses, sound))
 
-  module _ (last : State → Answer) (v w x : V) (u : S) {left : List ℕ} {inside : Bool} (old new : Option (List ℕ)) (r : Result (Unit {0}) RunError) (more : List Piece) (none : held v ≡ []) (t : TakesEnded qs 1114111 takes v w left inside old new (2 ^ 40) 65536)
-      (rows : list_rows qs t.bytes ≡ t.ended ++ more) (answered : Answered taken failed (answer_of v) (state v) (state x) (held v) (held x) (out v) (out x) (t.ended ++ more)) (settles : settled x) (writes : Writes (last (state x)) r (sink_use taken failed (out x) u)) where
+  module _ (last : State → Answer) (v w x : V) (u : S) {left : List ℕ} {inside : Bool} (old new : Option (List ℕ))
+      (r : Result (Unit {0}) RunError) (more : List Piece) (none : held v ≡ [])
+      (t : TakesEnded qs 1114111 takes v w left inside old new (2 ^ 40) 65536)
+      (rows : list_rows qs t.bytes ≡ t.ended ++ more)
+      (answered : Answered taken failed (answer_of v) (state v) (state x) (held v) (held x) (out v) (out x)
+      (t.ended ++ more))
+      (settles : settled x) (writes : Writes (last (state x)) r (sink_use taken failed (out x) u)) where
     all_answered : AnswersAll (by_rows qs (answer_of v last (state v))) old new r (sink_use taken failed (out v) u)
     all_answered =
         let end : Writes (answer_of v last (state x) []) r (sink_use taken failed (out x) u) =

@@ -69,8 +69,17 @@ quiet_fields separator (b ∷ bs) h =
     let (m, more) = both (b == 34) (quiet bs) h in
     let rest = quiet_fields separator bs more in
     let (p, ps, first) = first_piece separator true false bs in
-    let go : (t : Bool) → list_all (λ p. quiet p.0) (if t then ([], false) ∷ cut separator true false bs else with_first b (cut separator true false bs)) ≡ true =
-    λ t. elim t as (λ t. list_all (λ p. quiet p.0) (if t then ([], false) ∷ cut separator true false bs else with_first b (cut separator true false bs)) ≡ true) [ true ↦ rest | false ↦ first_quiet b (cut separator true false bs) ps p first m rest ] in
+    let go : (t : Bool)
+    → list_all (λ p. quiet p.0)
+    (if t then ([], false) ∷ cut separator true false bs else with_first b (cut separator true false bs))
+    ≡ true =
+    λ t.
+    elim t as
+    (λ t.
+    list_all (λ p. quiet p.0) (if t then ([], false) ∷ cut separator true false bs
+    else with_first b (cut separator true false bs))
+    ≡ true)
+    [ true ↦ rest | false ↦ first_quiet b (cut separator true false bs) ps p first m rest ] in
     rw m (go ((b == separator) && true))
 
 pub quiet_sound : (separator : ℕ) (bytes : List ℕ) → quiet bytes ≡ true → quotes_are_sound separator bytes ≡ true

@@ -36,8 +36,14 @@ module _ (q : Bool) (more : List ℕ) (uncut : (inside : Bool) → Uncut 10 q in
       cut_at_end 10 q inside more (uncut inside).uncut ∙ ap (λ t. (more, t) ∷ []) (uncut inside).inside_is
   cut_more inside (b ∷ bs) =
       let next = turned q inside b in
-      let go : (t : Bool) → (if t then ([], false) ∷ cut 10 q false (bs ++ more) else with_first b (cut 10 q next (bs ++ more))) ≡ with_more more (if t then ([], false) ∷ cut 10 q false bs else with_first b (cut 10 q next bs)) =
-      λ t. elim t as (λ t. (if t then ([], false) ∷ cut 10 q false (bs ++ more) else with_first b (cut 10 q next (bs ++ more))) ≡ with_more more (if t then ([], false) ∷ cut 10 q false bs else with_first b (cut 10 q next bs))) [
+      let go : (t : Bool)
+      → (if t then ([], false) ∷ cut 10 q false (bs ++ more) else with_first b (cut 10 q next (bs ++ more)))
+      ≡ with_more more (if t then ([], false) ∷ cut 10 q false bs else with_first b (cut 10 q next bs)) =
+      λ t.
+      elim t as
+      (λ t.
+      (if t then ([], false) ∷ cut 10 q false (bs ++ more) else with_first b (cut 10 q next (bs ++ more)))
+      ≡ with_more more (if t then ([], false) ∷ cut 10 q false bs else with_first b (cut 10 q next bs))) [
         | true ↦ (
             let (p, ps, is) = first_piece 10 q false bs in
             let kept : with_more more (([], false) ∷ cut 10 q false bs) ≡ (
@@ -60,7 +66,9 @@ uncut_returns q inside (suc n) =
 uncut_lacking : (q inside : Bool) (n : ℕ) (line : List ℕ) → Uncut 10 q inside (lacking (replicate n 13) line) inside
 uncut_lacking q inside n line =
     let go : (t : Bool) → Uncut 10 q inside (if t then [] else replicate n 13) inside =
-    λ t. elim t as (λ t. Uncut 10 q inside (if t then [] else replicate n 13) inside) [ true ↦ uncut_none 10 q inside | false ↦ uncut_returns q inside n ] in
+    λ t.
+    elim t as (λ t. Uncut 10 q inside (if t then [] else replicate n 13) inside)
+    [ true ↦ uncut_none 10 q inside | false ↦ uncut_returns q inside n ] in
     go ((length line == 0) || not (length (returns_of line) == 0))
 
 lacking_ended : (returns : List ℕ) (ended : List Piece) (p : Piece)
@@ -97,7 +105,8 @@ list_completes q bytes = (lacking_last [] (pieces_of q bytes), refl)
 pub lacks_none_empty : (returns line : List ℕ) → (length line == 0) ≡ true → lacking returns line ≡ []
 lacks_none_empty returns line none = rw none refl
 
-module _ (returns body : List ℕ) (n : ℕ) (bare : row_body body ≡ body) (some : (length (body ++ replicate n 13) == 0) ≡ false) where
+module _ (returns body : List ℕ) (n : ℕ) (bare : row_body body ≡ body)
+    (some : (length (body ++ replicate n 13) == 0) ≡ false) where
   own : length (returns_of (body ++ replicate n 13)) ≡ n
   own = ap length (returns_of_row body n bare) ∙ length-replicate n 13
 

@@ -22,6 +22,7 @@ pub mod ReadBack
 pub mod Returns
 pub mod Stand
 pub mod Steps
+pub mod Taken
 pub mod TakenCells
 pub mod TakenNamed
 pub mod Tails

@@ -36,7 +36,10 @@ bare_drop (suc n) (b ∷ bs) h = bare_drop n bs (bare_less b bs (are_returns (b 
 
 pub bare_read : (n : ℕ) (row : List ℕ) → row_body row ≡ row → row_body (read_of n row) ≡ read_of n row
 bare_read n row h =
-    elim (n == 1) as (λ t. row_body (if t then (if has_order_mark row then drop 3 row else row) else row) ≡ (if t then (if has_order_mark row then drop 3 row else row) else row)) [
+    elim (n == 1) as
+    (λ t.
+    row_body (if t then (if has_order_mark row then drop 3 row else row) else row)
+    ≡ (if t then (if has_order_mark row then drop 3 row else row) else row)) [
       | true ↦
           elim (has_order_mark row) as (λ u. row_body (if u then drop 3 row else row) ≡ (if u then drop 3 row else row))
           [ true ↦ bare_drop 3 row h | false ↦ h ]
@@ -57,7 +60,11 @@ later_mark n row later = rw later refl
 -- the mark and what is read are the row
 mark_then_read : (n : ℕ) (row : List ℕ) → mark_of n row ++ read_of n row ≡ row
 mark_then_read n row =
-    elim (n == 1) as (λ t. (if t && has_order_mark row then take 3 row else []) ++ (if t then (if has_order_mark row then drop 3 row else row) else row) ≡ row) [
+    elim (n == 1) as
+    (λ t.
+    (if t && has_order_mark row then take 3 row else [])
+    ++ (if t then (if has_order_mark row then drop 3 row else row) else row)
+    ≡ row) [
       | true ↦
           elim (has_order_mark row) as (λ u. (if u then take 3 row else []) ++ (if u then drop 3 row else row) ≡ row) [
             | true ↦ take-append-drop 3 row
@@ -162,7 +169,11 @@ puts_marked taken failed mark form s a k line bytes bytes' e step x y known goes
     let after : marked mark (faulty form (state_of s bytes) line e)
     ≡ record { answer = written (mark ++ unanswered form line (row_error_name e)); after = state_of a bytes' } =
     rw (goes, n, b, kept, known) refl in
-    record { text = mark ++ unanswered form line (row_error_name e); is = ap (marked mark) is ∙ after; moves = rw (b, known) m }
+    record {
+      text = mark ++ unanswered form line (row_error_name e);
+      is = ap (marked mark) is ∙ after;
+      moves = rw (b, known) m;
+    }
 
 pub breaks_marked : (mark : List ℕ) (form : Form) (s : RowState) (k : Columns) (line bytes : List ℕ) (error : RowError)
     (step : Step) (e : RunError) (sink : SinkUse)
@@ -197,7 +208,8 @@ ends_moved taken failed held held' a e s t u m h =
     (before_before m.part held' a ∙ ap (λ l. before l a) (sym m.split))
     (ends_after taken failed s t u (before held' a) m.part e m.grown m.sound h)
 
-module _ {S : Type 0} (taken : S → Option (List ℕ)) (failed : S → Bool) (k : Columns) (state : RowState) (known : state.columns ≡ Some k) (held held' : List ℕ) (s t : S) (m : Moves taken failed held held' s t) where
+module _ {S : Type 0} (taken : S → Option (List ℕ)) (failed : S → Bool) (k : Columns) (state : RowState)
+    (known : state.columns ≡ Some k) (held held' : List ℕ) (s t : S) (m : Moves taken failed held held' s t) where
   pub steps_moved : (step : State → Step) (after : State) (columns : Option Columns) (bytes : List ℕ) (u : S)
       → StepsTo taken failed (step (state_of state held')) after (held_of state.columns held')
       (held_of columns bytes) t u
@@ -219,10 +231,19 @@ module _ {S : Type 0} (taken : S → Option (List ℕ)) (failed : S → Bool) (k
       → StepEnds (step (state_of state held)) (held_of state.columns held) e (sink_use taken failed s u)
   ends_moved_step step e u h next =
       let same : state_of state held' ≡ state_of state held = rw known refl in
-      let own : EndsBy (before held' (then_answer (step (state_of state held)).answer.output (step (state_of state held)).answer.ending next)) e (sink_use taken failed t u) =
+      let own : EndsBy
+      (before held'
+      (then_answer (step (state_of state held)).answer.output (step (state_of state held)).answer.ending next))
+      e (sink_use taken failed t u) =
       subst (λ c. EndsBy (before (held_of c held') (then_answer (step (state_of state held)).answer.output
       (step (state_of state held)).answer.ending next)) e (sink_use taken failed t u)) known
-      (subst (λ x. EndsBy (before (held_of state.columns held') (then_answer (step x).answer.output (step x).answer.ending next)) e (sink_use taken failed t u)) same (h next)) in
+      (subst
+      (λ x.
+      EndsBy
+      (before (held_of state.columns held')
+      (then_answer (step x).answer.output (step x).answer.ending next))
+      e (sink_use taken failed t u))
+      same (h next)) in
       subst (λ c. EndsBy (before (held_of c held) (then_answer (step (state_of state held)).answer.output
       (step (state_of state held)).answer.ending next)) e (sink_use taken failed s u)) (sym known)
       (ends_moved taken failed held held' _ e s t u m own)

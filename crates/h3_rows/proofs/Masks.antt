@@ -102,5 +102,11 @@ one_line bytes at run end room short is s =
     (sym (all_same (eqb (get_or bytes (at + run) 0) 10)) ∙ s.stops short) in
     let more : take (run + 1) (drop at bytes) ≡ take run (drop at bytes) ++ get_or (drop at bytes) run 0 ∷ [] =
     take_more (drop at bytes) run 0 (omega (arith, length-drop at bytes)) in
-    let seen : drop at (take end bytes) ≡ take (run + 1) (drop at bytes) = let count : end ≡ at + (run + 1) = omega (arith, eqb-true (at + run + 1) end is) in ap (λ n. drop at (take n bytes)) count ∙ drop-take at (run + 1) bytes in
-    record { line = take run (drop at bytes); split = seen ∙ more ∙ ap (λ b. take run (drop at bytes) ++ b ∷ []) feed; whole = sym (no_feeds (take run (drop at bytes))) ∙ s.before }
+    let seen : drop at (take end bytes) ≡ take (run + 1) (drop at bytes) =
+    let count : end ≡ at + (run + 1) = omega (arith, eqb-true (at + run + 1) end is) in
+    ap (λ n. drop at (take n bytes)) count ∙ drop-take at (run + 1) bytes in
+    record {
+      line = take run (drop at bytes);
+      split = seen ∙ more ∙ ap (λ b. take run (drop at bytes) ++ b ∷ []) feed;
+      whole = sym (no_feeds (take run (drop at bytes))) ∙ s.before;
+    }

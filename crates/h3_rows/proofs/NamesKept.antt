@@ -67,7 +67,9 @@ place_new quotes names field text none =
     let same : tf ≡ text = (bytes_decides tf text).0 y in
     let absent : place_of quotes text names ≡ None = subst (λ l. place_of quotes l names ≡ None) same none in
     let here : bytes_eq text tf ≡ true = nat_list_eq_equiv.symm text tf ∙ y in
-    position_new (λ name. bytes_eq text (name_text quotes name)) 0 names field absent ∙ ap (λ b. cond b (Some (0 + length names)) None) here ∙ ap Some (from_none (length names)) ∙ sym (cond-true (bytes_eq tf text) (Some (length names)) (place_of quotes text names) y)))
+    position_new (λ name. bytes_eq text (name_text quotes name)) 0 names field absent
+    ∙ ap (λ b. cond b (Some (0 + length names)) None) here ∙ ap Some (from_none (length names))
+    ∙ sym (cond-true (bytes_eq tf text) (Some (length names)) (place_of quotes text names) y)))
     (λ n. place_other quotes names field text (place_of quotes text names) refl (nat_list_eq_equiv.symm text tf ∙ n)
     ∙ sym (cond-false (bytes_eq tf text) (Some (length names)) (place_of quotes text names) n))
     (cases_Bool (bytes_eq tf text))

@@ -89,8 +89,15 @@ same_names : (first more whole end : List ℕ) → length first ≤ length whole
 same_names [] more whole end fits = refl
 same_names (f ∷ fs) more [] end fits = absurd (omega (arith, fits))
 same_names (f ∷ fs) more (w ∷ ws) end fits =
-    let go : (x : Bool) → ((x && bytes_eq fs (take (length fs) ws)) && bytes_eq more (drop (length fs) ws ++ end)) ≡ (x && bytes_eq (fs ++ more) (ws ++ end)) =
-    λ x. elim x as (λ x. ((x && bytes_eq fs (take (length fs) ws)) && bytes_eq more (drop (length fs) ws ++ end)) ≡ (x && bytes_eq (fs ++ more) (ws ++ end))) [ true ↦ same_names fs more ws end (omega (arith, fits)) | false ↦ refl ] in
+    let go : (x : Bool)
+    → ((x && bytes_eq fs (take (length fs) ws)) && bytes_eq more (drop (length fs) ws ++ end))
+    ≡ (x && bytes_eq (fs ++ more) (ws ++ end)) =
+    λ x.
+    elim x as
+    (λ x.
+    ((x && bytes_eq fs (take (length fs) ws)) && bytes_eq more (drop (length fs) ws ++ end))
+    ≡ (x && bytes_eq (fs ++ more) (ws ++ end)))
+    [ true ↦ same_names fs more ws end (omega (arith, fits)) | false ↦ refl ] in
     go (nat_eq f w)
 
 pub same_if_begun : (first more whole end : List ℕ) → length first ≤ length whole

@@ -34,7 +34,9 @@ use Rattle.h3_rows.proofs.Steps.{passed_is}
 
 is_not : (n b : ℕ) (t : Bool) → (b == n) ≡ t → is_digit n 16 ≡ false → is_digit b 16 ≡ true → t ≡ false
 is_not n b false is other digit = refl
-is_not n b true is other digit = let never : is_digit n 16 ≡ true = ap (λ m. is_digit m 16) (sym (eqb-true b n is)) ∙ digit in absurd (cc (never, other))
+is_not n b true is other digit =
+    let never : is_digit n 16 ≡ true = ap (λ m. is_digit m 16) (sym (eqb-true b n is)) ∙ digit in
+    absurd (cc (never, other))
 
 no_blank : (b : ℕ) → is_digit b 16 ≡ true → is_blank b ≡ false
 no_blank b digit =
@@ -95,7 +97,8 @@ some_from_test (x ∷ xs) b is h = omega arith
 
 -- ---- the row
 
-module _ (form : Form) (answer : Option ℕ → Answer) (s : RowState) (k : Columns) (known : s.columns ≡ Some k) (later : s.number ≡ 1 → ⊥) (silent : form.shows_errors ≡ false) where
+module _ (form : Form) (answer : Option ℕ → Answer) (s : RowState) (k : Columns) (known : s.columns ≡ Some k)
+    (later : s.number ≡ 1 → ⊥) (silent : form.shows_errors ≡ false) where
   module _ (bytes row field held : List ℕ) (n : ℕ) (p : IsPlainRow form.separator form.quotes k bytes row n field)
       (some : 0 < length row) (few : length row ≤ 1048575) where
     abbrev line : List ℕ
@@ -223,5 +226,6 @@ first_cut qs bytes row after size cuts is rest =
     let u = cuts.begins in
     let left : drop (size + 1) bytes ≡ after = rw (cuts.split, ← is) (drop-append-add row (10 ∷ after) 1) in
     let later : bytes ++ rest ≡ row ++ 10 ∷ (drop (size + 1) bytes ++ rest) =
-    ap (λ l. l ++ rest) (cuts.split ∙ ap (λ l. row ++ 10 ∷ l) (sym left)) ∙ append_assoc row (10 ∷ drop (size + 1) bytes) rest in
+    ap (λ l. l ++ rest) (cuts.split ∙ ap (λ l. row ++ 10 ∷ l) (sym left))
+    ∙ append_assoc row (10 ∷ drop (size + 1) bytes) rest in
     ap (pieces_of qs) later ∙ cut_at_mark 10 qs false row (drop (size + 1) bytes ++ rest) u.uncut u.inside_is refl

@@ -61,7 +61,8 @@ module _ (form : Form) (number : ℕ) (k : Columns) (later : number ≡ 1 → �
           p.field_is,
         ) (ap text_cell plain.text_is ∙ sym (text_cell_parsed plain.text index plain.parses))
 
-    pub plain_cell : (index : ℕ) (cell : Address) → IsPlainField form.quotes field index → form.says index ≡ Ok (Some cell)
+    pub plain_cell : (index : ℕ) (cell : Address) → IsPlainField form.quotes field index
+        → form.says index ≡ Ok (Some cell)
         → 0 < length row → length row ≤ 1048575 → IsPlainCell form number k bytes row n cell
     plain_cell index cell plain is some few = record {
       after = p.after;
@@ -84,7 +85,8 @@ same_quotes false false h = refl
 
 -- ---- its cell is taken
 
-module _ (form : Form) (number : ℕ) (k : Columns) (bytes row : List ℕ) (n : ℕ) (cell : Address) (p : IsPlainCell form number k bytes row n cell) where
+module _ (form : Form) (number : ℕ) (k : Columns) (bytes row : List ℕ) (n : ℕ) (cell : Address)
+    (p : IsPlainCell form number k bytes row n cell) where
   -- it ends at its line feed, whether quotes count or not
   pub cell_cuts : (quotes : Bool) → not (beq quotes form.quotes) ≡ false
       → CutsAt 10 quotes false bytes (row ++ replicate n 13) p.after

@@ -13,7 +13,8 @@ use Rattle.h3_rows.proofs.WholeFields.{whole_append, whole_marked, whole_none, w
 use Rattle.h3_lines.specs.PiecesLaws.{cut_at_end}
 use Rattle.h3_lines.specs.ScanLaws.{split_at}
 
-module _ (separator : ℕ) (quotes : Bool) (quote : (34 == separator) ≡ false) (feed : (10 == separator) ≡ false) (carriage : (13 == separator) ≡ false) where
+module _ (separator : ℕ) (quotes : Bool) (quote : (34 == separator) ≡ false) (feed : (10 == separator) ≡ false)
+    (carriage : (13 == separator) ≡ false) where
   pub passes_none : (before : ℕ) (bytes : List ℕ) → PassesFields separator quotes before before bytes bytes
   passes_none before bytes =
       record {
@@ -246,7 +247,14 @@ module _ (separator : ℕ) (quotes : Bool) (quote : (34 == separator) ≡ false)
       let row : take (length p.front + last) after ≡ p.front ++ take last tail =
       ap (take (length p.front + last)) p.split ∙ take-append-add p.front tail last in
       let all : suc (length (cut separator quotes false (take (length p.front + last) after))) ≡ suc more
-      = omega (arith, ap (λ l. length (cut separator quotes false l)) row, p.counted (take last tail), one_field (take last tail) whole, some) in
+      =
+      omega (
+        arith,
+        ap (λ l. length (cut separator quotes false l)) row,
+        p.counted (take last tail),
+        one_field (take last tail) whole,
+        some,
+      ) in
       let wide : is_as_wide columns.width (columns.before + suc more) ≡ true =
       wide_is columns width (columns.before + suc more) is (omega (arith, count)) in
       subst (EndsPlain separator quotes columns rest end) place
@@ -256,7 +264,8 @@ module _ (separator : ℕ) (quotes : Bool) (quote : (34 == separator) ≡ false)
       (ap (λ n. is_as_wide columns.width (columns.before + n)) all ∙ wide))
 
   -- the first bytes, up to a place after those that are passed over
-  first_bytes : (before left part size : ℕ) (bytes rest : List ℕ) → (p : PassesFields separator quotes before left bytes rest)
+  first_bytes : (before left part size : ℕ) (bytes rest : List ℕ)
+      → (p : PassesFields separator quotes before left bytes rest)
       → length bytes - length rest + part ≡ size → take size bytes ≡ p.front ++ take part rest
   first_bytes before left part size bytes rest p is =
       let long : length bytes ≡ length p.front + length rest = ap length p.split ∙ length-append p.front rest in

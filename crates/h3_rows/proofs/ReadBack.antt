@@ -76,7 +76,10 @@ rows_read_back separator quotes line a rest q f uncut closed a_uncut a_closed =
     uncut_then 10 quotes body (separator ∷ (a ++ last)) u (uncut_then 10 quotes (separator ∷ []) (a ++ last) s
     (uncut_then 10 quotes a last (record { uncut = a_uncut; inside_is = a_closed }) (return_uncut quotes line))) in
     let bytes : row_with separator line a ++ rest ≡ (body ++ (separator ∷ (a ++ last))) ++ 10 ∷ rest =
-    append_assoc body (separator ∷ (a ++ (last ++ 10 ∷ []))) rest ∙ ap (λ l. body ++ (separator ∷ l)) (append_assoc a (last ++ 10 ∷ []) rest ∙ ap (λ l. a ++ l) (append_assoc last (10 ∷ []) rest) ∙ sym (append_assoc a last (10 ∷ rest))) ∙ sym (append_assoc body (separator ∷ (a ++ last)) (10 ∷ rest)) in
+    append_assoc body (separator ∷ (a ++ (last ++ 10 ∷ []))) rest
+    ∙ ap (λ l. body ++ (separator ∷ l)) (append_assoc a (last ++ 10 ∷ []) rest
+    ∙ ap (λ l. a ++ l) (append_assoc last (10 ∷ []) rest) ∙ sym (append_assoc a last (10 ∷ rest)))
+    ∙ sym (append_assoc body (separator ∷ (a ++ last)) (10 ∷ rest)) in
     rows_go quotes (row_with separator line a ++ rest) rest ((body ++ (separator ∷ (a ++ last)), false) ∷ []) (ap
     (pieces_of quotes) bytes ∙ cut_at_mark 10 quotes false
     (body ++ (separator ∷ (a ++ last))) rest all.uncut all.inside_is refl)

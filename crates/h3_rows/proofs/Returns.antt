@@ -21,8 +21,13 @@ other_returns b bs other = rw other refl
 pub body_then_returns : (line : List ℕ) → row_body line ++ returns_of line ≡ line
 body_then_returns [] = refl
 body_then_returns (b ∷ bs) =
-    let go : (t : Bool) → are_returns (b ∷ bs) ≡ t → (if t then [] else b ∷ row_body bs) ++ (if t then b ∷ bs else returns_of bs) ≡ b ∷ bs =
-    λ t. elim t as (λ t. are_returns (b ∷ bs) ≡ t → (if t then [] else b ∷ row_body bs) ++ (if t then b ∷ bs else returns_of bs) ≡ b ∷ bs) [
+    let go : (t : Bool) → are_returns (b ∷ bs) ≡ t
+    → (if t then [] else b ∷ row_body bs) ++ (if t then b ∷ bs else returns_of bs) ≡ b ∷ bs =
+    λ t.
+    elim t as
+    (λ t.
+    are_returns (b ∷ bs) ≡ t
+    → (if t then [] else b ∷ row_body bs) ++ (if t then b ∷ bs else returns_of bs) ≡ b ∷ bs) [
       | true ↦ λ is. refl
       | false ↦ λ is. ap (λ l. b ∷ l) (body_then_returns bs)
     ] in
@@ -32,7 +37,9 @@ pub returns_are : (line : List ℕ) → are_returns (returns_of line) ≡ true
 returns_are [] = refl
 returns_are (b ∷ bs) =
     let go : (t : Bool) → are_returns (b ∷ bs) ≡ t → are_returns (if t then b ∷ bs else returns_of bs) ≡ true =
-    λ t. elim t as (λ t. are_returns (b ∷ bs) ≡ t → are_returns (if t then b ∷ bs else returns_of bs) ≡ true) [ true ↦ λ is. is | false ↦ λ is. returns_are bs ] in
+    λ t.
+    elim t as (λ t. are_returns (b ∷ bs) ≡ t → are_returns (if t then b ∷ bs else returns_of bs) ≡ true)
+    [ true ↦ λ is. is | false ↦ λ is. returns_are bs ] in
     go (are_returns (b ∷ bs)) refl
 
 both : (x y : Bool) → (x && y) ≡ true → (x ≡ true) × (y ≡ true)
@@ -117,8 +124,13 @@ body_not_alone (b ∷ bs) other =
 pub body_again : (line : List ℕ) → row_body (row_body line) ≡ row_body line
 body_again [] = refl
 body_again (b ∷ bs) =
-    let go : (t : Bool) → are_returns (b ∷ bs) ≡ t → row_body (if t then [] else b ∷ row_body bs) ≡ (if t then [] else b ∷ row_body bs) =
-    λ t. elim t as (λ t. are_returns (b ∷ bs) ≡ t → row_body (if t then [] else b ∷ row_body bs) ≡ (if t then [] else b ∷ row_body bs)) [
+    let go : (t : Bool) → are_returns (b ∷ bs) ≡ t
+    → row_body (if t then [] else b ∷ row_body bs) ≡ (if t then [] else b ∷ row_body bs) =
+    λ t.
+    elim t as
+    (λ t.
+    are_returns (b ∷ bs) ≡ t
+    → row_body (if t then [] else b ∷ row_body bs) ≡ (if t then [] else b ∷ row_body bs)) [
       | true ↦ λ is. refl
       | false ↦ λ is. (
           let mixed : are_returns (b ∷ row_body bs) ≡ false =
@@ -132,7 +144,8 @@ bare_mixed : (x : ℕ) (xs : List ℕ) → row_body (x ∷ xs) ≡ x ∷ xs → 
 bare_mixed x xs bare =
     let go : (t : Bool) → are_returns (x ∷ xs) ≡ t → t ≡ false =
     λ t. elim t as (λ t. are_returns (x ∷ xs) ≡ t → t ≡ false) [
-      | true ↦ λ is. (let none : (let l : List ℕ = [] in l) ≡ x ∷ xs = sym (returns_body (x ∷ xs) is) ∙ bare in absurd (cc none))
+      | true ↦ λ is.
+          (let none : (let l : List ℕ = [] in l) ≡ x ∷ xs = sym (returns_body (x ∷ xs) is) ∙ bare in absurd (cc none))
       | false ↦ λ is. refl
     ] in
     go (are_returns (x ∷ xs)) refl

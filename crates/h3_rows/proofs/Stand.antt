@@ -40,7 +40,8 @@ faulty_stands : (form : Form) (s : State) (line : List ℕ) (e : RowError) (b : 
     → StepStands (faulty form s line e) s line (unanswered form line (row_error_name e))
 faulty_stands form s line e true goes good =
     rw goes (record { ending = refl; output = refl; number = refl; columns = refl; pending = refl })
-faulty_stands form s line e false goes good = absurd (let stops : (ends s e).answer.ending ≡ Ok tt = rw goes at good in cc)
+faulty_stands form s line e false goes good =
+    absurd (let stops : (ends s e).answer.ending ≡ Ok tt = rw goes at good in cc)
 
 beside_stands : (form : Form) (s : State) (line output : List ℕ) (r : Result (Unit {0}) AnswerError)
     → (beside form s line output r).answer.ending ≡ Ok tt
@@ -75,7 +76,10 @@ marked_stands : (mark : List ℕ) (step : Step) (s : State) (line whole text : L
     → StepStands (marked mark step) s whole (mark ++ text)
 marked_stands mark step s line whole text feeds h = record {
   ending = h.ending;
-  output = let written : begun_with mark step.answer.ending step.answer.output ≡ mark ++ step.answer.output = rw h.ending refl in written ∙ ap (λ l. mark ++ l) h.output;
+  output =
+      let written : begun_with mark step.answer.ending step.answer.output ≡ mark ++ step.answer.output =
+      rw h.ending refl in
+      written ∙ ap (λ l. mark ++ l) h.output;
   number = h.number ∙ feeds;
   columns = h.columns;
   pending = h.pending;
@@ -87,7 +91,8 @@ row_stands : (form : Form) (answer : Option ℕ → Answer) (k : Columns) (s : S
     → s.columns ≡ Some k → malformed form s.number p ≡ m → (is_empty_row s.number (row_body p.0)) ≡ e
     → (row_step form answer s p).answer.ending ≡ Ok tt
     → StepStands (row_step form answer s p) s p.0 (own_lines form answer k (s.number, p))
-row_stands form answer k s p (Some fault) e known bad empty good = absurd (let stops : (ends s (row_error.Bad fault)).answer.ending ≡ Ok tt = rw bad at good in cc)
+row_stands form answer k s p (Some fault) e known bad empty good =
+    absurd (let stops : (ends s (row_error.Bad fault)).answer.ending ≡ Ok tt = rw bad at good in cc)
 row_stands form answer k s p None true known sound empty good =
     let is : row_step form answer s p ≡ goes_on s p.0 (p.0 ++ 10 ∷ []) = rw (sound, empty, known) refl in
     let text : own_lines form answer k (s.number, p) ≡ p.0 ++ 10 ∷ [] = rw empty refl in
@@ -133,13 +138,15 @@ rows_stand form answer k s (p ∷ ps) known good =
 faulty_silent : (form : Form) (s : State) (line : List ℕ) (e : RowError) (b : Bool) (by : AnswerError)
     → form.keeps_going ≡ b → s.pending ≡ [] → (faulty form s line e).answer.ending ≡ Err by
     → (faulty form s line e).answer.output ≡ []
-faulty_silent form s line e true by goes none bad = absurd (let stops : (let r : Result (Unit {0}) AnswerError = Ok tt in r) ≡ Err by = rw goes at bad in cc)
+faulty_silent form s line e true by goes none bad =
+    absurd (let stops : (let r : Result (Unit {0}) AnswerError = Ok tt in r) ≡ Err by = rw goes at bad in cc)
 faulty_silent form s line e false by goes none bad = rw goes none
 
 beside_silent : (form : Form) (s : State) (line : List ℕ) (a : Answer) (by : AnswerError) → IsWholeOrRefused a
     → s.pending ≡ [] → (beside form s line a.output a.ending).answer.ending ≡ Err by
     → (beside form s line a.output a.ending).answer.output ≡ []
-beside_silent form s line a by (inl whole) none bad = absurd (let stops : (let r : Result (Unit {0}) AnswerError = Ok tt in r) ≡ Err by = rw whole at bad in cc)
+beside_silent form s line a by (inl whole) none bad =
+    absurd (let stops : (let r : Result (Unit {0}) AnswerError = Ok tt in r) ≡ Err by = rw whole at bad in cc)
 beside_silent form s line a by (inr (e, is)) none bad =
     let silent : (faulty form s line (row_error.Call e)).answer.ending ≡ Err by
     → (faulty form s line (row_error.Call e)).answer.output ≡ [] =
@@ -163,7 +170,8 @@ row_silent : (form : Form) (answer : Option ℕ → Answer) (k : Columns) (s : S
     → malformed form s.number p ≡ m → (is_empty_row s.number (row_body p.0)) ≡ e
     → (row_step form answer s p).answer.ending ≡ Err by → (row_step form answer s p).answer.output ≡ []
 row_silent form answer k s p (Some fault) e by refuses known none fails empty bad = rw fails none
-row_silent form answer k s p None true by refuses known none sound empty bad = absurd (let stops : (let r : Result (Unit {0}) AnswerError = Ok tt in r) ≡ Err by = rw (sound, empty, known) at bad in cc)
+row_silent form answer k s p None true by refuses known none sound empty bad = absurd
+    (let stops : (let r : Result (Unit {0}) AnswerError = Ok tt in r) ≡ Err by = rw (sound, empty, known) at bad in cc)
 row_silent form answer k s p None false by refuses known none sound empty bad =
     let said = row_cell form s.number k (row_body p.0) in
     let line = unmarked s.number p.0 in
@@ -196,7 +204,8 @@ rows_stand_until form answer k s (p ∷ ps) refuses known none =
           let joined : (then_answer step.answer.output step.answer.ending later).output
           ≡ step.answer.output ++ later.output =
           rw good refl in
-          let ending : (then_answer step.answer.output step.answer.ending later).ending ≡ later.ending = rw good refl in (
+          let ending : (then_answer step.answer.output step.answer.ending later).ending ≡ later.ending =
+          rw good refl in (
             p ∷ done,
             more,
             ap (λ l. p ∷ l) split,
@@ -208,8 +217,15 @@ rows_stand_until form answer k s (p ∷ ps) refuses known none =
       | Err e ↦ λ bad. (
           let silent =
           row_silent form answer k s p (malformed form s.number p)
-          (is_empty_row s.number (row_body p.0)) e refuses known none refl refl bad in
-          ([], p ∷ ps, refl, rw bad silent, λ all. absurd (let stops : (let r : Result (Unit {0}) AnswerError = Err e in r) ≡ Ok tt = rw bad at all in cc)))
+          (is_empty_row s.number (row_body p.0)) e refuses known none refl refl bad in (
+            [],
+            p ∷ ps,
+            refl,
+            rw bad silent,
+            λ all.
+                absurd
+                (let stops : (let r : Result (Unit {0}) AnswerError = Err e in r) ≡ Ok tt = rw bad at all in cc),
+          ))
     ] in
     go step.answer.ending refl
 
@@ -229,7 +245,8 @@ header_by : (form : Form) (answer : Option ℕ → Answer) (s : State) (p : Piec
     → ((row_step form answer s p).answer.output ≡ s.pending ++ header_with form.separator p.0 form.names)
     × ((row_step form answer s p).after.pending ≡ [])
     × ((c : Columns) × ((row_step form answer s p).after.columns ≡ Some c))
-header_by form answer s p (Some fault) bad none filled good = absurd (let stops : (ends s (row_error.Bad fault)).answer.ending ≡ Ok tt = rw bad at good in cc)
+header_by form answer s p (Some fault) bad none filled good =
+    absurd (let stops : (ends s (row_error.Bad fault)).answer.ending ≡ Ok tt = rw bad at good in cc)
 header_by form answer s p None sound none filled good =
     let read = read_of s.number (row_body p.0) in
     let columns = free_columns form read (columns_in form read) in
@@ -304,7 +321,9 @@ last_dropped p (q ∷ ps) = elim (last_dropped q ps) [
       ∙ ap (λ l. (p.0 ++ 10 ∷ []) ++ l) e)
 ]
 
-pieces_give_back : (quotes : Bool) (bytes : List ℕ) → let whole : List ℕ = flat_map (λ p. p.0 ++ 10 ∷ []) (rows_of quotes bytes) in (whole ≡ bytes) ⊎ (whole ≡ bytes ++ 10 ∷ [])
+pieces_give_back : (quotes : Bool) (bytes : List ℕ)
+    → let whole : List ℕ =
+    flat_map (λ p. p.0 ++ 10 ∷ []) (rows_of quotes bytes) in (whole ≡ bytes) ⊎ (whole ≡ bytes ++ 10 ∷ [])
 pieces_give_back quotes bytes =
     let (p, ps, first) = first_piece 10 quotes false bytes in
     let rows : rows_of quotes bytes ≡ without_last_nothing (p ∷ ps) = ap without_last_nothing first in

@@ -54,7 +54,11 @@ module _ (s a : RowState) (k : Columns) (known : s.columns ≡ Some k) (line byt
       → Moves taken failed (bytes ++ text) bytes' x y
       → StepsTo taken failed step (state_of a bytes') (held_of s.columns bytes) (held_of a.columns bytes') x y
   puts taken failed step text bytes' x y n b kept is m =
-      record { text = text; is = is ∙ ap (λ w. record { answer = written text; after = w }) (passed_is bytes' n b kept); moves = rw (b, known) m }
+      record {
+        text = text;
+        is = is ∙ ap (λ w. record { answer = written text; after = w }) (passed_is bytes' n b kept);
+        moves = rw (b, known) m;
+      }
 
   pub puts_faulty : {S : Type 0} (taken : S → Option (List ℕ)) (failed : S → Bool) (form : Form) (step : Step)
       (e : RowError) (bytes' : List ℕ) (x y : S)
@@ -116,7 +120,11 @@ pub puts_header : {S : Type 0} (taken : S → Option (List ℕ)) (failed : S →
     → StepsTo taken failed (header_step form (state_of s bytes) line columns) (state_of a bytes')
     (held_of s.columns bytes) (held_of a.columns bytes') x y
 puts_header taken failed form s a line bytes bytes' columns c x y known is n b kept m =
-    record { text = bytes ++ header_with form.separator line form.names; is = rw (known, is, n, b, kept) refl; moves = rw (known, b) m }
+    record {
+      text = bytes ++ header_with form.separator line form.names;
+      is = rw (known, is, n, b, kept) refl;
+      moves = rw (known, b) m;
+    }
 
 -- the bytes before a header are no answers
 pub held_nothing : (b : Option Columns) (n : ℕ) (bytes : List ℕ) → n ≡ 0 → held_of b (take n bytes) ≡ []
@@ -125,7 +133,8 @@ held_nothing (Some k) n bytes none = rw none refl
 
 -- ---- empty rows before a header
 
-module _ (s a : RowState) (none : s.columns ≡ None) (line bytes bytes' : List ℕ) (count : a.number ≡ next_number s.number line) (b : a.columns ≡ s.columns) (kept : a.kept ≡ s.kept) where
+module _ (s a : RowState) (none : s.columns ≡ None) (line bytes bytes' : List ℕ)
+    (count : a.number ≡ next_number s.number line) (b : a.columns ≡ s.columns) (kept : a.kept ≡ s.kept) where
   -- it is held back
   pub holds_empty : {S : Type 0} (taken : S → Option (List ℕ)) (failed : S → Bool) (x : S)
       → length bytes + length line + 1 ≤ 32768 → bytes' ≡ bytes ++ (line ++ 10 ∷ [])
@@ -133,7 +142,11 @@ module _ (s a : RowState) (none : s.columns ≡ None) (line bytes bytes' : List 
       (held_of s.columns bytes) (held_of a.columns bytes') x x
   holds_empty taken failed x few is =
       let fits : nat_lt 32768 (length bytes + length line + 1) ≡ false = grind (arith, nat_tests) in
-      record { text = []; is = rw (none, fits, count, b, none, kept, is) refl; moves = rw (none, b, none) (moves_none taken failed [] x) }
+      record {
+        text = [];
+        is = rw (none, fits, count, b, none, kept, is) refl;
+        moves = rw (none, b, none) (moves_none taken failed [] x);
+      }
 
   -- all are written
   pub writes_empty : {S : Type 0} (taken : S → Option (List ℕ)) (failed : S → Bool) (x y : S)
@@ -142,7 +155,11 @@ module _ (s a : RowState) (none : s.columns ≡ None) (line bytes bytes' : List 
       (held_of s.columns bytes) (held_of a.columns bytes') x y
   writes_empty taken failed x y many is m =
       let full : nat_lt 32768 (length bytes + length line + 1) ≡ true = grind (arith, nat_tests) in
-      record { text = bytes ++ (line ++ 10 ∷ []); is = rw (none, full, count, b, none, kept, is) refl; moves = rw (none, b, none) m }
+      record {
+        text = bytes ++ (line ++ 10 ∷ []);
+        is = rw (none, full, count, b, none, kept, is) refl;
+        moves = rw (none, b, none) m;
+      }
 
 pub breaks_empty : (s : RowState) (line bytes : List ℕ) (e : RunError) (sink : SinkUse) → s.columns ≡ None
     → 32768 < length bytes + length line + 1 → Breaks (bytes ++ (line ++ 10 ∷ [])) sink e

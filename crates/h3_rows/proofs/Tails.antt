@@ -18,8 +18,15 @@ leads : (xs : List ℕ) (m : ℕ) (ms : List ℕ) → is_blank m ≡ false
     → without_leading_blanks (xs ++ m ∷ ms) ≡ without_leading_blanks xs ++ m ∷ ms
 leads [] m ms solid = rw solid refl
 leads (x ∷ xs) m ms solid =
-    let go : (t : Bool) → is_blank x ≡ t → (if t then without_leading_blanks (xs ++ m ∷ ms) else x ∷ (xs ++ m ∷ ms)) ≡ (if t then without_leading_blanks xs else x ∷ xs) ++ m ∷ ms =
-    λ t. elim t as (λ t. is_blank x ≡ t → (if t then without_leading_blanks (xs ++ m ∷ ms) else x ∷ (xs ++ m ∷ ms)) ≡ (if t then without_leading_blanks xs else x ∷ xs) ++ m ∷ ms) [
+    let go : (t : Bool) → is_blank x ≡ t
+    → (if t then without_leading_blanks (xs ++ m ∷ ms) else x ∷ (xs ++ m ∷ ms))
+    ≡ (if t then without_leading_blanks xs else x ∷ xs) ++ m ∷ ms =
+    λ t.
+    elim t as
+    (λ t.
+    is_blank x ≡ t
+    → (if t then without_leading_blanks (xs ++ m ∷ ms) else x ∷ (xs ++ m ∷ ms))
+    ≡ (if t then without_leading_blanks xs else x ∷ xs) ++ m ∷ ms) [
       | true ↦ λ is. leads xs m ms solid
       | false ↦ λ is. refl
     ] in
@@ -56,5 +63,7 @@ tail_text quotes first (m ∷ ms) tail some =
     let text = without_leading_blanks first ++ m ∷ ms in
     let at : get_or text (length text - 1) 0 ≡ last = last_of (without_leading_blanks first) m ms in
     let trims : trimmed (first ++ m ∷ ms) ≡ text =
-    ap without_trailing_blanks (leads first m ms solid) ∙ sym (other_last text (omega (arith, length-append (without_leading_blanks first) (m ∷ ms))) (ap is_blank at ∙ kept)) in
+    ap without_trailing_blanks (leads first m ms solid)
+    ∙ sym (other_last text (omega (arith, length-append (without_leading_blanks first) (m ∷ ms)))
+    (ap is_blank at ∙ kept)) in
     text_by quotes (first ++ m ∷ ms) text trims (stays_quoted text (ap (λ b. b == 34) at ∙ not_true (last == 34) plain))

@@ -74,5 +74,6 @@ texts_stay_sound separator row text quote closed sound uncut shut own_sound =
     let whole : Uncut separator true false text false = record { uncut = uncut; inside_is = shut } in
     let last : is_read_alike separator text ≡ true = sym (alike_last separator text false whole) ∙ own in
     let both : list_all (λ p. is_read_alike separator p.0) (cut separator true false (row ++ separator ∷ text)) ≡ true =
-    ap (list_all alike) (fields_are_kept separator true row text quote closed uncut shut) ∙ list_all-append alike (cut separator true false row) ((text, false) ∷ []) ∙ rw (all, last) refl in
+    ap (list_all alike) (fields_are_kept separator true row text quote closed uncut shut)
+    ∙ list_all-append alike (cut separator true false row) ((text, false) ∷ []) ∙ rw (all, last) refl in
     rw (well_then separator true false false row text quote closed opens well, both) refl

@@ -8,7 +8,8 @@ use Rattle.h3_rows.specs.declared.row_cell.RowCell.TheVariants.{Index}
 nothing_left : (rest : List ℕ) (b : Bool) → (length rest == 0) ≡ b → (n : ℕ)
     → parsed_number (without_prefix rest) ≡ Some n → b ≡ false
 nothing_left [] b is n parses = absurd (cc)
-nothing_left (x ∷ rest) b is n parses = let some : (length (x ∷ rest) == 0) ≡ false = grind (arith, nat_tests) in sym is ∙ some
+nothing_left (x ∷ rest) b is n parses =
+    let some : (length (x ∷ rest) == 0) ≡ false = grind (arith, nat_tests) in sym is ∙ some
 
 pub text_cell_parsed : (text : List ℕ) (n : ℕ) → parsed_index text ≡ Some n → Ok (Index n) ≡ text_cell text
 unfolding parsed_index

@@ -81,7 +81,8 @@ module _ (separator : ℕ) (quotes : Bool) (quote : (34 == separator) ≡ false)
       rw q (calm_goes_on (true && (b == separator || (start && is_blank b))) false bs more rest)
 
   calm_opens : (field : List ℕ) → quiet field ≡ true → opens_well separator true false false field ≡ true
-  calm_opens field h = let (o, a) = two_hold (opens_well separator true false false field) _ (quiet_sound separator field h) in o
+  calm_opens field h =
+      let (o, a) = two_hold (opens_well separator true false false field) _ (quiet_sound separator field h) in o
 
   -- a field without quotes
   pub calm_whole : (field : List ℕ) → are_calm separator quotes field ≡ true → IsWhole separator quotes field

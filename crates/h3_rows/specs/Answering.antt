@@ -61,7 +61,8 @@ abbrev pub form_of_job : {F : Type 0} → (F → Bool) → RowJob F → Form
 form_of_job counts_quotes job = form_with (counts_quotes job.function.now) job.options.now job.name.now job.is_pair
 
 -- a row is answered by bytes alone, which are put after what is held back, and the state after it is this
-pub record StepsTo {S : Type 0} (taken : S → Option (List ℕ)) (failed : S → Bool) (step : Step) (w : State) (held held' : List ℕ) (s t : S) : Type 0 where
+pub record StepsTo {S : Type 0} (taken : S → Option (List ℕ)) (failed : S → Bool) (step : Step) (w : State)
+    (held held' : List ℕ) (s t : S) : Type 0 where
   pub text : List ℕ
   pub is : step ≡ record { answer = written text; after = w }
   pub moves : Moves taken failed (held ++ text) held' s t
@@ -73,7 +74,8 @@ StepEnds step held e out =
 
 -- the bytes begin with a row of so many bytes that has no line feed, which ends in so many carriage returns, and its
 -- answer, bytes alone, is put after what is held back
-pub record PutsPlain (form : Form) (answer : Option ℕ → Answer) (s : RowState) (bytes held held' : List ℕ) (size returns : ℕ) : Type 0 where
+pub record PutsPlain (form : Form) (answer : Option ℕ → Answer) (s : RowState) (bytes held held' : List ℕ)
+    (size returns : ℕ) : Type 0 where
   pub row : List ℕ
   pub after : List ℕ
   pub split : bytes ≡ row ++ 10 ∷ after
@@ -97,19 +99,22 @@ pub record PutsShort (quotes : Bool) (a : Answer) (old new : List ℕ) (at end :
   pub closed : inside_after quotes false puts.text ≡ false
 
 -- an answer is bytes alone, and the row is put once for each of its lines, with bytes after it, after what is held back
-pub record PutsBeside {S : Type 0} (taken : S → Option (List ℕ)) (failed : S → Bool) (answer : Answer) (separator : ℕ) (quotes : Bool) (after line held held' : List ℕ) (s t : S) : Type 0 where
+pub record PutsBeside {S : Type 0} (taken : S → Option (List ℕ)) (failed : S → Bool) (answer : Answer) (separator : ℕ)
+    (quotes : Bool) (after line held held' : List ℕ) (s t : S) : Type 0 where
   pub text : List ℕ
   pub is : answer ≡ written text
   pub moves : Moves taken failed (held ++ rows_with separator quotes after line text) held' s t
 
 -- the same, and a write fails
-pub record BreaksBeside (answer : Answer) (separator : ℕ) (quotes : Bool) (after line held : List ℕ) (sink : SinkUse) (e : RunError) : Type 0 where
+pub record BreaksBeside (answer : Answer) (separator : ℕ) (quotes : Bool) (after line held : List ℕ) (sink : SinkUse)
+    (e : RunError) : Type 0 where
   pub text : List ℕ
   pub is : answer ≡ written text
   pub breaks : Breaks (held ++ rows_with separator quotes after line text) sink e
 
 -- in any state a row is answered by the same bytes alone, which are put after what is held back
-pub record PutsCell {S : Type 0} (taken : S → Option (List ℕ)) (failed : S → Bool) (step : State → Step) (line held held' : List ℕ) (s t : S) : Type 0 where
+pub record PutsCell {S : Type 0} (taken : S → Option (List ℕ)) (failed : S → Bool) (step : State → Step)
+    (line held held' : List ℕ) (s t : S) : Type 0 where
   pub text : List ℕ
   pub is : (state : State) → step state ≡ goes_on state line text
   pub moves : Moves taken failed (held ++ text) held' s t

@@ -21,8 +21,15 @@ numbers_then quotes names (x ∷ xs) ys =
 among_both : (xs ys : List Entry) → cells_among (xs ++ ys) ≡ cells_among xs ++ cells_among ys
 among_both [] ys = refl
 among_both (x ∷ xs) ys =
-    let go : (cell : Option Address) → named_before cell x.field (cells_among (xs ++ ys)) ≡ named_before cell x.field (cells_among xs) ++ cells_among ys =
-    λ cell. elim cell as (λ cell. named_before cell x.field (cells_among (xs ++ ys)) ≡ named_before cell x.field (cells_among xs) ++ cells_among ys) [ None ↦ among_both xs ys | Some c ↦ ap (λ l. (c, x.field) ∷ l) (among_both xs ys) ] in
+    let go : (cell : Option Address)
+    → named_before cell x.field (cells_among (xs ++ ys))
+    ≡ named_before cell x.field (cells_among xs) ++ cells_among ys =
+    λ cell.
+    elim cell as
+    (λ cell.
+    named_before cell x.field (cells_among (xs ++ ys))
+    ≡ named_before cell x.field (cells_among xs) ++ cells_among ys)
+    [ None ↦ among_both xs ys | Some c ↦ ap (λ l. (c, x.field) ∷ l) (among_both xs ys) ] in
     go x.cell
 
 title_then : (title : Option (List ℕ)) (xs ys : List Entry)
@@ -58,8 +65,15 @@ pub names_put : (quotes : Bool) (names : List (List ℕ)) (e : Entry) (es : List
     → names_after quotes names (cells_among (e ∷ es))
     ≡ names_after quotes (name_put e.cell quotes names e.field) (cells_among es)
 names_put quotes names e es =
-    let go : (cell : Option Address) → names_after quotes names (named_before cell e.field (cells_among es)) ≡ names_after quotes (name_put cell quotes names e.field) (cells_among es) =
-    λ cell. elim cell as (λ cell. names_after quotes names (named_before cell e.field (cells_among es)) ≡ names_after quotes (name_put cell quotes names e.field) (cells_among es)) [ None ↦ refl | Some c ↦ refl ] in
+    let go : (cell : Option Address)
+    → names_after quotes names (named_before cell e.field (cells_among es))
+    ≡ names_after quotes (name_put cell quotes names e.field) (cells_among es) =
+    λ cell.
+    elim cell as
+    (λ cell.
+    names_after quotes names (named_before cell e.field (cells_among es))
+    ≡ names_after quotes (name_put cell quotes names e.field) (cells_among es))
+    [ None ↦ refl | Some c ↦ refl ] in
     go e.cell
 
 rows_then : (quotes : Bool) (names : List (List ℕ)) (rows : List ℕ) (xs ys : List Entry)
@@ -98,7 +112,8 @@ numbered_then quotes quotes' quotes'' names names' names'' cells cells' cells'' 
     let both = among_both xs ys in
     let later : names'' ≡ names_after quotes (names_after quotes names cs) ds =
     q.1 ∙ ap (λ o. names_after o names' ds) p.0 ∙ ap (λ l. names_after quotes l ds) p.1 in
-    let numbers : numbered quotes' names' ds ≡ numbered quotes (names_after quotes names cs) ds = ap (λ o. numbered o names' ds) p.0 ∙ ap (λ l. numbered quotes l ds) p.1 in (
+    let numbers : numbered quotes' names' ds ≡ numbered quotes (names_after quotes names cs) ds =
+    ap (λ o. numbered o names' ds) p.0 ∙ ap (λ l. numbered quotes l ds) p.1 in (
       q.0 ∙ p.0,
       later ∙ sym (names_then quotes names cs ds) ∙ ap (names_after quotes names) (sym both),
       q.2 ∙ ap (λ l. l ++ numbered quotes' names' ds) p.2
@@ -118,16 +133,28 @@ pub position_stays : (p : List ℕ → Bool) (i k : ℕ) (xs ys : List (List ℕ
     → position_from p i (xs ++ ys) ≡ Some k
 position_stays p i k [] ys h = absurd (cc)
 position_stays p i k (x ∷ xs) ys h =
-    let go : (t : Bool) → p x ≡ t → cond t (Some i) (position_from p (i + 1) xs) ≡ Some k → cond t (Some i) (position_from p (i + 1) (xs ++ ys)) ≡ Some k =
-    λ t. elim t as (λ t. p x ≡ t → cond t (Some i) (position_from p (i + 1) xs) ≡ Some k → cond t (Some i) (position_from p (i + 1) (xs ++ ys)) ≡ Some k) [ true ↦ λ is found. found | false ↦ λ is found. position_stays p (i + 1) k xs ys found ] in
+    let go : (t : Bool) → p x ≡ t → cond t (Some i) (position_from p (i + 1) xs) ≡ Some k
+    → cond t (Some i) (position_from p (i + 1) (xs ++ ys)) ≡ Some k =
+    λ t.
+    elim t as
+    (λ t.
+    p x ≡ t → cond t (Some i) (position_from p (i + 1) xs) ≡ Some k
+    → cond t (Some i) (position_from p (i + 1) (xs ++ ys)) ≡ Some k)
+    [ true ↦ λ is found. found | false ↦ λ is found. position_stays p (i + 1) k xs ys found ] in
     go (p x) refl h
 
 pub position_new : (p : List ℕ → Bool) (i : ℕ) (xs : List (List ℕ)) (y : List ℕ) → position_from p i xs ≡ None
     → position_from p i (xs ++ y ∷ []) ≡ cond (p y) (Some (i + length xs)) None
 position_new p i [] y h = ap (λ n. cond (p y) (Some n) None) (omega arith)
 position_new p i (x ∷ xs) y h =
-    let go : (t : Bool) → p x ≡ t → cond t (Some i) (position_from p (i + 1) xs) ≡ None → cond t (Some i) (position_from p (i + 1) (xs ++ y ∷ [])) ≡ cond (p y) (Some (i + length (x ∷ xs))) None =
-    λ t. elim t as (λ t. p x ≡ t → cond t (Some i) (position_from p (i + 1) xs) ≡ None → cond t (Some i) (position_from p (i + 1) (xs ++ y ∷ [])) ≡ cond (p y) (Some (i + length (x ∷ xs))) None) [
+    let go : (t : Bool) → p x ≡ t → cond t (Some i) (position_from p (i + 1) xs) ≡ None
+    → cond t (Some i) (position_from p (i + 1) (xs ++ y ∷ [])) ≡ cond (p y) (Some (i + length (x ∷ xs))) None =
+    λ t.
+    elim t as
+    (λ t.
+    p x ≡ t → cond t (Some i) (position_from p (i + 1) xs) ≡ None
+    → cond t (Some i) (position_from p (i + 1) (xs ++ y ∷ []))
+    ≡ cond (p y) (Some (i + length (x ∷ xs))) None) [
       | true ↦ λ is found. absurd (cc)
       | false ↦ λ is found. position_new p (i + 1) xs y found ∙ ap (λ n. cond (p y) (Some n) None) (omega arith)
     ] in
@@ -141,8 +168,13 @@ pub place_with : (quotes : Bool) (names : List (List ℕ)) (field : List ℕ)
     → place_of quotes (name_text quotes field) (with_name quotes names field) ≡ Some (number_for quotes names field)
 place_with quotes names field =
     let text = name_text quotes field in
-    let go : (place : Option ℕ) → place_of quotes text names ≡ place → place_of quotes text (with_place place names field) ≡ Some (unwrap_or place (length names)) =
-    λ place. elim place as (λ place. place_of quotes text names ≡ place → place_of quotes text (with_place place names field) ≡ Some (unwrap_or place (length names))) [
+    let go : (place : Option ℕ) → place_of quotes text names ≡ place
+    → place_of quotes text (with_place place names field) ≡ Some (unwrap_or place (length names)) =
+    λ place.
+    elim place as
+    (λ place.
+    place_of quotes text names ≡ place
+    → place_of quotes text (with_place place names field) ≡ Some (unwrap_or place (length names))) [
       | Some k ↦ λ is. is
       | None ↦
           λ is. position_new (λ name. bytes_eq text (name_text quotes name)) 0 names field is
@@ -155,7 +187,11 @@ pub place_stays : (quotes : Bool) (text : List ℕ) (k : ℕ) (names : List (Lis
 place_stays quotes text k names [] h = h
 place_stays quotes text k names (c ∷ cs) h =
     let go : (place : Option ℕ) → place_of quotes text (with_place place names c.1) ≡ Some k =
-    λ place. elim place as (λ place. place_of quotes text (with_place place names c.1) ≡ Some k) [ Some j ↦ h | None ↦ position_stays (λ name. bytes_eq text (name_text quotes name)) 0 k names (c.1 ∷ []) h ] in
+    λ place.
+    elim place as (λ place. place_of quotes text (with_place place names c.1) ≡ Some k) [
+      | Some j ↦ h
+      | None ↦ position_stays (λ name. bytes_eq text (name_text quotes name)) 0 k names (c.1 ∷ []) h
+    ] in
     place_stays quotes text k (with_name quotes names c.1) cs (go (place_of quotes (name_text quotes c.1) names))
 
 -- each cell has the number of its area from the first

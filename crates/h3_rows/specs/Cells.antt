@@ -1,23 +1,19 @@
 -- The cells of the rows of a list.
-use Rattle.std.specs.Prelude.{◌≡◌, ℕ, ◌*◌, ◌^◌, ◌≤◌, ◌⊎◌, Bool, true, List, [], ◌∷◌, ◌++◌, length, Option, None, Some, Result, Ok, Err, if◌then◌else◌}
-use Rattle.std.specs.Io.KnownBytes.{Consumes}
+use Rattle.std.specs.Prelude.{ℕ, Bool, List, [], ◌∷◌, Option, None, Some, Result, Ok, Err, if◌then◌else◌}
 use Rattle.h3_index.specs.Cell.{Address}
-use Rattle.h3_streams.specs.Stream.{HasLeft}
 use Rattle.h3_index.specs.declared.error.H3Error.{H3Error}
 use Rattle.h3_lines.specs.List.{Says}
-use Rattle.h3_lines.specs.Reads.{IsWithinReads}
 use Rattle.h3_lines.specs.declared.run_error.AnswerError.{AnswerError}
 use Rattle.h3_lines.specs.declared.run_error.AnswerError.TheVariants as ending_by
 use Rattle.h3_lines.specs.declared.run_error.ColumnError.{ColumnError}
 use Rattle.h3_lines.specs.declared.run_error.ColumnError.TheVariants.{NotFound}
-use Rattle.h3_lines.specs.declared.run_error.Fault.TheVariants.{Memory, Read, Write}
 use Rattle.h3_lines.specs.declared.run_error.RowError.{RowError}
 use Rattle.h3_lines.specs.declared.run_error.RowError.TheVariants as row_error
 use Rattle.h3_lines.specs.declared.run_error.RowFault.{RowFault}
 use Rattle.h3_lines.specs.declared.run_error.RunError.{RunError}
-use Rattle.h3_lines.specs.declared.run_error.RunError.TheVariants.{Error, Fault}
-use Rattle.h3_lines.specs.Pieces.{Piece, pieces_of, rows_of}
+use Rattle.h3_lines.specs.Pieces.{Piece}
 use Rattle.h3_lines.specs.Taking.{cell_list, cells_before}
+use Rattle.h3_rows.specs.ReadTo.{AllRead, ReadTo, RefusesInPage, RefusesRead}
 use Rattle.h3_rows.specs.Row.{is_empty_row, next_number, read_of, row_body}
 use Rattle.h3_rows.specs.RowsAnswer.{After, Choice, Form, Named, columns_first, columns_in, malformed, row_cell}
 use Rattle.h3_rows.specs.declared.state.Columns.{Columns}
@@ -31,8 +27,8 @@ abbrev pub called : {A : Type 0} → Result A H3Error → Result A RowError
 called (Ok value) = Ok value
 called (Err e) = Err (row_error.Call e)
 
--- cell_read says read: the cell of a row by what is read of its field: none if it is missing, else what is taken for its
--- index; and an error if the row is faulty, or this is an error
+-- cell_read says read: the cell of a row by what is read of its field: none if it is missing, else what is taken for
+-- its index; and an error if the row is faulty, or this is an error
 abbrev pub cell_read : Says → Result RowCell RowFault → Result (Option Address) RowError
 cell_read says (Err fault) = Err (row_error.Bad fault)
 cell_read says (Ok Missing) = Ok None
@@ -106,53 +102,20 @@ begun_cells form rows = cells_then (λ columns. Ok []) form 1 (columns_first for
 
 -- ---- how it ends
 
--- AllRowsRead: all bytes of a list are read, in reads that may be made, and these are the cells of its rows, or its
--- error
-pub record AllRowsRead (form : Form) (cells : Result (List Address) AnswerError) (old new : Option (List ℕ)) : Type 0 where
-  pub list : List ℕ
-  pub held : HasLeft old list
-  pub consumed : Consumes old new list
-  pub within : IsWithinReads (2 ^ 40) 65536 list
-  pub is : cells_of form (rows_of form.quotes list) ≡ cells
+-- AllRowsRead form cells: all bytes of a list are read, in reads that may be made, and these are the cells of its rows,
+-- or its error
+abbrev pub AllRowsRead : Form → Result (List Address) AnswerError → Option (List ℕ) → Option (List ℕ) → Type 0
+AllRowsRead form cells old new = AllRead form.quotes (cells_of form) cells old new
 
--- RowsReadTo: a part of a list is read, and then at most so many bytes more, in reads that may be made; the rows that
--- end in the part have no error, and the one that does not has at most 1,114,111 bytes in it
-pub record RowsReadTo (form : Form) (most : ℕ) (old new : Option (List ℕ)) : Type 0 where
-  pub part : List ℕ
-  pub last : List ℕ
-  pub rest : List ℕ
-  pub held : HasLeft old (part ++ last ++ rest)
-  pub consumed : Consumes old new (part ++ last)
-  pub short : length last ≤ most
-  pub within : length (part ++ last) ≤ 2 ^ 40 * 65536
-  pub ended : List Piece
-  pub unended : Piece
-  pub rows : pieces_of form.quotes part ≡ ended ++ unended ∷ []
-  pub begun : length unended.0 ≤ 1114111
-  pub cells : List Address
-  pub good : begun_cells form ended ≡ Ok cells
+-- RowsReadTo form most: a part of a list is read, and then at most so many bytes more, as `ReadTo` says
+abbrev pub RowsReadTo : Form → ℕ → Option (List ℕ) → Option (List ℕ) → Type 0
+RowsReadTo form most old new = ReadTo form.quotes (begun_cells form) most old new
 
--- RefusesRowsAtEnd form e: all rows of a list are read, and none of them has an error; the list has this one at its end
-pub record RefusesRowsAtEnd (form : Form) (e : AnswerError) (old new : Option (List ℕ)) : Type 0 where
-  pub read : AllRowsRead form (Err e) old new
-  pub cells : List Address
-  pub good : begun_cells form (rows_of form.quotes read.list) ≡ Ok cells
-
--- RefusesRowsInPage form e: a row of a list has this error, and at most a page is read beyond rows without one; the
--- list ends within the reads that may be made, or each that begins with what is read has the error
-pub record RefusesRowsInPage (form : Form) (e : AnswerError) (old new : Option (List ℕ)) : Type 0 where
-  pub stop : RowsReadTo form 65536 old new
-  pub is : cells_of form (rows_of form.quotes (stop.part ++ stop.last ++ stop.rest)) ≡ Err e
-  pub of_row : begun_cells form (rows_of form.quotes (stop.part ++ stop.last ++ stop.rest)) ≡ Err e
-  pub known : IsWithinReads (2 ^ 40) 65536 (stop.part ++ stop.last ++ stop.rest)
-      ⊎ ((after : List ℕ) → cells_of form (rows_of form.quotes (stop.part ++ stop.last ++ after)) ≡ Err e)
+-- RefusesRowsInPage form e: a row of a list has this error, as `RefusesInPage` says
+abbrev pub RefusesRowsInPage : Form → AnswerError → Option (List ℕ) → Option (List ℕ) → Type 0
+RefusesRowsInPage form e old new = RefusesInPage form.quotes (cells_of form) (begun_cells form) e old new
 
 -- RefusesRows: how the reading of the cells of rows is refused: by the list's own error, of its end or of a row in the
 -- last page that is read; for want of memory; or by a read that fails, or the last one that may be made
 abbrev pub RefusesRows : Form → Option (List ℕ) → Option (List ℕ) → Bool → Bool → RunError → Type 0
-RefusesRows form old new had has (Error e) =
-    (has ≡ had) × (RefusesRowsAtEnd form e old new ⊎ RefusesRowsInPage form e old new)
-RefusesRows form old new had has (Fault Memory) = (has ≡ had) × RowsReadTo form 65536 old new
-RefusesRows form old new had has (Fault Read) =
-    (stop : RowsReadTo form 0 old new) × ((has ≡ true) ⊎ (2 ^ 40 ≤ length (stop.part ++ stop.last ++ stop.rest)))
-RefusesRows form old new had has (Fault Write) = ⊥
+RefusesRows form old new had has e = RefusesRead form.quotes (cells_of form) (begun_cells form) old new had has e

@@ -85,7 +85,8 @@ HeaderStands =
 abbrev pub RowsGiveBack : Type 0
 RowsGiveBack = (quotes : Bool) (bytes : List ℕ) →
     let ended : List ℕ = bytes ++ lacking_last [] (pieces_of quotes bytes) in
-    let whole : List ℕ = flat_map (λ p. p.0 ++ 10 ∷ []) (list_rows quotes bytes) in (whole ≡ ended) ⊎ (whole ≡ ended ++ 10 ∷ [])
+    let whole : List ℕ = flat_map (λ p. p.0 ++ 10 ∷ []) (list_rows quotes bytes) in
+    (whole ≡ ended) ⊎ (whole ≡ ended ++ 10 ∷ [])
 
 -- ---- a row with its answer
 

@@ -12,6 +12,7 @@ pub mod Line
 pub mod Named
 pub mod NamedIn
 pub mod Plain
+pub mod ReadTo
 pub mod Row
 pub mod RowForm
 pub mod RowsAnswer

@@ -1,28 +1,24 @@
 -- The rows of a table in which one field has a cell, and a second field a text, such as a name, or a number.
-use Rattle.std.specs.Prelude.{◌≡◌, ℕ, ◌==◌, ◌*◌, ◌^◌, ◌≤◌, ◌⊎◌, Bool, true, List, [], ◌∷◌, ◌++◌, length, Option, None, Some, option_map, Result, Ok, Err, false, if◌then◌else◌, ℤ, pos}
-use Rattle.std.specs.Io.KnownBytes.{Consumes}
+use Rattle.std.specs.Prelude.{◌≡◌, ℕ, ◌==◌, Bool, List, [], ◌∷◌, length, Option, None, Some, option_map, Result, Ok, Err, false, if◌then◌else◌, ℤ, pos}
 use Rattle.h3_index.specs.Cell.{Address}
 use Rattle.h3_index.specs.Text.{trimmed}
-use Rattle.h3_streams.specs.Stream.{HasLeft}
 use Rattle.h3_lines.specs.List.{Says, itself}
-use Rattle.h3_lines.specs.Reads.{IsWithinReads}
 use Rattle.h3_lines.specs.declared.run_error.AnswerError.{AnswerError}
 use Rattle.h3_lines.specs.declared.run_error.AnswerError.TheVariants as ending_by
 use Rattle.h3_lines.specs.declared.run_error.ColumnError.{ColumnError}
 use Rattle.h3_lines.specs.declared.run_error.ColumnError.TheVariants.{NotFound}
-use Rattle.h3_lines.specs.declared.run_error.Fault.TheVariants.{Memory, Read, Write}
 use Rattle.h3_lines.specs.declared.run_error.RowError.{RowError}
 use Rattle.h3_lines.specs.declared.run_error.RowError.TheVariants as row_error
 use Rattle.h3_lines.specs.declared.run_error.RowFault.{RowFault}
 use Rattle.h3_lines.specs.declared.run_error.RowFault.TheVariants.{FieldCount, NoSuchField}
 use Rattle.h3_lines.specs.declared.run_error.RunError.{RunError}
-use Rattle.h3_lines.specs.declared.run_error.RunError.TheVariants.{Error, Fault}
-use Rattle.h3_lines.specs.Pieces.{Piece, cut, pieces_of, rows_of}
+use Rattle.h3_lines.specs.Pieces.{Piece, cut}
 use Rattle.h3_lines.specs.Taking.{cells_before}
 use Rattle.h3_numbers.specs.Number.{number_units}
 use Rattle.h3_numbers.specs.Reading.{parsed_number}
 use Rattle.h3_numbers.specs.declared.number.Number.{Number as Decimal}
 use Rattle.h3_rows.specs.Cells.{cell_read}
+use Rattle.h3_rows.specs.ReadTo.{AllRead, ReadTo, RefusesInPage, RefusesRead}
 use Rattle.h3_rows.specs.Row.{field_text, is_empty_row, next_number, piece_at, read_of, row_body}
 use Rattle.h3_rows.specs.RowForm.{form_as}
 use Rattle.h3_rows.specs.RowsAnswer.{After, Choice, Form, Named, choice_of, chosen_in, columns_first, columns_in, malformed, row_cell}
@@ -179,7 +175,8 @@ header_found table n row (Err e) = record { cells = Err (ending_by.Column e); co
 
 -- filled_found table n line columns: what a row that is not empty has
 abbrev pub filled_found : Table → ℕ → List ℕ → Option TableColumns → Found
-filled_found table n line None = let row = read_of n (row_body line) in header_found table n row (table_columns table row)
+filled_found table n line None =
+    let row = read_of n (row_body line) in header_found table n row (table_columns table row)
 filled_found table n line (Some columns) =
     record { cells = entries_at n (named_row table n columns (row_body line)); columns = Some columns }
 
@@ -233,53 +230,21 @@ begun_named table rows = named_then (λ columns. Ok []) table 1 (table_first tab
 
 -- ---- how it ends
 
--- AllNamedRead: all bytes of a list are read, in reads that may be made, and these are its entries, or its error
-pub record AllNamedRead (table : Table) (entries : Result (List Entry) AnswerError) (old new : Option (List ℕ)) : Type 0 where
-  pub list : List ℕ
-  pub held : HasLeft old list
-  pub consumed : Consumes old new list
-  pub within : IsWithinReads (2 ^ 40) 65536 list
-  pub is : named_cells table (rows_of table.form.quotes list) ≡ entries
+-- AllNamedRead table entries: all bytes of a list are read, in reads that may be made, and these are its entries, or
+-- its error
+abbrev pub AllNamedRead : Table → Result (List Entry) AnswerError → Option (List ℕ) → Option (List ℕ) → Type 0
+AllNamedRead table entries old new = AllRead table.form.quotes (named_cells table) entries old new
 
--- NamedReadTo: a part of a list is read, and then at most so many bytes more, in reads that may be made; the rows that
--- end in the part have no error, and the one that does not has at most 1,114,111 bytes in it
-pub record NamedReadTo (table : Table) (most : ℕ) (old new : Option (List ℕ)) : Type 0 where
-  pub part : List ℕ
-  pub last : List ℕ
-  pub rest : List ℕ
-  pub held : HasLeft old (part ++ last ++ rest)
-  pub consumed : Consumes old new (part ++ last)
-  pub short : length last ≤ most
-  pub within : length (part ++ last) ≤ 2 ^ 40 * 65536
-  pub ended : List Piece
-  pub unended : Piece
-  pub rows : pieces_of table.form.quotes part ≡ ended ++ unended ∷ []
-  pub begun : length unended.0 ≤ 1114111
-  pub entries : List Entry
-  pub good : begun_named table ended ≡ Ok entries
+-- NamedReadTo table most: a part of a list is read, and then at most so many bytes more, as `ReadTo` says
+abbrev pub NamedReadTo : Table → ℕ → Option (List ℕ) → Option (List ℕ) → Type 0
+NamedReadTo table most old new = ReadTo table.form.quotes (begun_named table) most old new
 
--- RefusesNamedAtEnd table e: all rows of a list are read, and none of them has an error; the list has this one at its
--- end
-pub record RefusesNamedAtEnd (table : Table) (e : AnswerError) (old new : Option (List ℕ)) : Type 0 where
-  pub read : AllNamedRead table (Err e) old new
-  pub entries : List Entry
-  pub good : begun_named table (rows_of table.form.quotes read.list) ≡ Ok entries
-
--- RefusesNamedInPage table e: a row of a list has this error, and at most a page is read beyond rows without one; the
--- list ends within the reads that may be made, or each that begins with what is read has the error
-pub record RefusesNamedInPage (table : Table) (e : AnswerError) (old new : Option (List ℕ)) : Type 0 where
-  pub stop : NamedReadTo table 65536 old new
-  pub is : named_cells table (rows_of table.form.quotes (stop.part ++ stop.last ++ stop.rest)) ≡ Err e
-  pub of_row : begun_named table (rows_of table.form.quotes (stop.part ++ stop.last ++ stop.rest)) ≡ Err e
-  pub known : IsWithinReads (2 ^ 40) 65536 (stop.part ++ stop.last ++ stop.rest)
-      ⊎ ((after : List ℕ) → named_cells table (rows_of table.form.quotes (stop.part ++ stop.last ++ after)) ≡ Err e)
+-- RefusesNamedInPage table e: a row of a list has this error, as `RefusesInPage` says
+abbrev pub RefusesNamedInPage : Table → AnswerError → Option (List ℕ) → Option (List ℕ) → Type 0
+RefusesNamedInPage table e old new = RefusesInPage table.form.quotes (named_cells table) (begun_named table) e old new
 
 -- RefusesNamed: how the reading of a table is refused: by its own error, of its end or of a row in the last page that
 -- is read; for want of memory; or by a read that fails, or the last one that may be made
 abbrev pub RefusesNamed : Table → Option (List ℕ) → Option (List ℕ) → Bool → Bool → RunError → Type 0
-RefusesNamed table old new had has (Error e) =
-    (has ≡ had) × (RefusesNamedAtEnd table e old new ⊎ RefusesNamedInPage table e old new)
-RefusesNamed table old new had has (Fault Memory) = (has ≡ had) × NamedReadTo table 65536 old new
-RefusesNamed table old new had has (Fault Read) =
-    (stop : NamedReadTo table 0 old new) × ((has ≡ true) ⊎ (2 ^ 40 ≤ length (stop.part ++ stop.last ++ stop.rest)))
-RefusesNamed table old new had has (Fault Write) = ⊥
+RefusesNamed table old new had has e =
+    RefusesRead table.form.quotes (named_cells table) (begun_named table) old new had has e

@@ -33,9 +33,9 @@ pub data Choice : Type 0 where
   Named : List ℕ → Choice
 
 -- Form: the byte that separates fields, whether quotes count, which field has the cell, what is taken for its index if
--- the cells of the rows are a list, whether there is a header, the names of the new columns, what a row gets that has no
--- answer, whether quotes count in an answer too, whether the run goes on after an error, whether one more column has the
--- names of errors, and whether rows may have another number of fields than the header
+-- the cells of the rows are a list, whether there is a header, the names of the new columns, what a row gets that has
+-- no answer, whether quotes count in an answer too, whether the run goes on after an error, whether one more column has
+-- the names of errors, and whether rows may have another number of fields than the header
 pub record Form : Type 0 where
   pub separator : ℕ
   pub quotes : Bool
@@ -327,7 +327,8 @@ marked mark step = record {
 -- filled_step form answer s line columns: the answer to a row that is not empty: it is the header while one is awaited.
 -- The byte order mark before the first row of a list is written once, before the row
 abbrev pub filled_step : Form → (Option ℕ → Answer) → State → List ℕ → Option Columns → Step
-filled_step form answer s line None = let row = read_of s.number (row_body line) in header_step form s line (free_columns form row (columns_in form row))
+filled_step form answer s line None =
+    let row = read_of s.number (row_body line) in header_step form s line (free_columns form row (columns_in form row))
 filled_step form answer s line (Some columns) =
     marked (mark_of s.number (row_body line))
     (answer_to_cell form answer s (unmarked s.number line) (row_cell form s.number columns (row_body line)))
@@ -337,7 +338,10 @@ filled_step form answer s line (Some columns) =
 abbrev pub empty_step : State → List ℕ → Option Columns → Step
 empty_step s line None =
     if nat_lt 32768 (length s.pending + length line + 1) then
-    record { answer = written (s.pending ++ (line ++ 10 ∷ [])); after = record { number = next_number s.number line; columns = s.columns; pending = []; kept = s.kept } }
+    record {
+      answer = written (s.pending ++ (line ++ 10 ∷ []));
+      after = record { number = next_number s.number line; columns = s.columns; pending = []; kept = s.kept };
+    }
     else record {
       answer = written [];
       after = record {

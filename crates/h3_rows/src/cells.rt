@@ -65,7 +65,8 @@ fn find_cell<F: CellOf>(
         row_found (form_as (F.says function.now) options.now) state.number state.columns (line_of row.entry, inside)
         ≡ record { cells = Ok (cell_list r.0); columns = r.1.columns }) }
     ensures err { IfErr result (λ e.
-        (row_found (form_as (F.says function.now) options.now) state.number state.columns (line_of row.entry, inside)).cells
+        (row_found (form_as (F.says function.now) options.now) state.number state.columns
+        (line_of row.entry, inside)).cells
         ≡ Err e) }
 {
     if let Some(fault) = malformed(options, b"", state.number, row, inside) {

@@ -31,8 +31,8 @@ pub(crate) trait RowFunction {
     ghost needs: { Self → ℕ };
 
     /// Puts a row once for each line of the answer to its cell, with the bytes `after` it, after the
-    /// bytes held back in a block, which end at `end`, and returns where they end then; or returns the answer's error, and changes
-    /// nothing of them.
+    /// bytes held back in a block, which end at `end`, and returns where they end then; or returns the answer's error,
+    /// and changes nothing of them.
     fn put_beside<W: Sink>(
         &self,
         index: u64,

@@ -7,9 +7,9 @@ ghost use Rattle.h3_rows.specs.Laws.{FieldsAreKept, HeaderStands, MarksAreKept, 
 /// Each row is in the output whole, in order, with the answers to its own cell alone, up to the row that
 /// ends the answer; a header is before them whole, with the names of the new columns.
 ///
-/// A row and its ending are what was cut off, after the byte order mark before it. The fields of a row with an answer are those of the row, and
-/// then the answer, or its two parts. So taking the new columns away gives the rows back, and these the
-/// list, but for an ending that its last row lacked. Rows with their answers, read again, are as many rows.
+/// A row and its ending are what was cut off, after the byte order mark before it. The fields of a row with an answer
+/// are those of the row, and then the answer, or its two parts. So taking the new columns away gives the rows back, and
+/// these the list, but for an ending that its last row lacked. Rows with their answers, read again, are as many rows.
 pub fn answers_stand_beside()
     ensures stand { RowsStand }
     ensures until { RowsStandUntil }

@@ -132,7 +132,8 @@ fn read_named<'r, F: CellOf>(
 ) -> Result<Option<RowEntry<'r>>, RowError>
     ensures ok { IfOk result (λ r. named_row (table_in (F.says function.now) table.now) number columns row.now
         ≡ Ok (option_map (λ p. (p.0, p.1.now)) r)) }
-    ensures err { IfErr result (λ e. named_row (table_in (F.says function.now) table.now) number columns row.now ≡ Err e) }
+    ensures err { IfErr result (λ e. named_row (table_in (F.says function.now) table.now) number columns row.now
+        ≡ Err e) }
 {
     let cell = read_cell(function, table.rows, number, columns.cell, row);
     let field = find_name(table, columns.name, read_of(number, row));
@@ -161,7 +162,8 @@ fn find_named<'r, F: CellOf>(
           columns = r.1.columns;
         }) }
     ensures err { IfErr result (λ e.
-        (named_found (table_in (F.says function.now) table.now) state.number state.columns (line_of row.entry, inside)).cells
+        (named_found (table_in (F.says function.now) table.now) state.number state.columns
+        (line_of row.entry, inside)).cells
         ≡ Err e) }
 {
     let number = state.number;

@@ -250,7 +250,8 @@ pub(crate) fn find_plain(
 }
 
 /// What is taken for the cell of the row that bytes begin with, and that row, if it is plain and not the first one,
-/// and its cell a plain text for which a cell is taken. `None` may be answered to any other bytes, and if a stop is near to their end.
+/// and its cell a plain text for which a cell is taken. `None` may be answered to any other bytes, and if a stop is
+/// near to their end.
 #[inline(always)]
 pub(crate) fn find_plain_cell<'b, F: CellOf>(
     function: &F,

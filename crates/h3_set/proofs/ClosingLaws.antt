@@ -22,17 +22,23 @@ same_list cells h = record { rising = h; alike = λ x. ((λ c. c), (λ c. c)) }
 
 pub then_on : (a b c : List Address) → IsReduction a b → IsReduction b c → IsReduction a c
 then_on a b c h k =
-    record { rising = k.rising; alike = λ x. ((λ m. (k.alike x).0 ((h.alike x).0 m)), (λ m. (h.alike x).1 ((k.alike x).1 m))) }
+    record {
+      rising = k.rising;
+      alike = λ x. ((λ m. (k.alike x).0 ((h.alike x).0 m)), (λ m. (h.alike x).1 ((k.alike x).1 m)));
+    }
 
-module _ (tree : CellsFormTrees) (intervals : CellsFormIntervals) (A K B : List Address) (p : Address) (h : IsRising (A ++ (K ++ B))) where
+module _ (tree : CellsFormTrees) (intervals : CellsFormIntervals) (A K B : List Address) (p : Address)
+    (h : IsRising (A ++ (K ++ B))) where
   module _ (valid_p : IsCell p) (coarse : length p.digits < 15) (is : K ≡ children p) where
     kid : (c : Address) → IsChild p c → Contains K c
     kid c b =
-        subst (λ l. Contains l c) (sym is) ((tree.listed p (length p.digits + 1) valid_p (omega arith) (omega (arith, coarse)) c).1 b)
+        subst (λ l. Contains l c) (sym is)
+        ((tree.listed p (length p.digits + 1) valid_p (omega arith) (omega (arith, coarse)) c).1 b)
 
     of_kid : (c : Address) → Contains K c → IsChild p c
     of_kid c m =
-        (tree.listed p (length p.digits + 1) valid_p (omega arith) (omega (arith, coarse)) c).0 (subst (λ l. Contains l c) is m)
+        (tree.listed p (length p.digits + 1) valid_p (omega arith) (omega (arith, coarse)) c).0
+        (subst (λ l. Contains l c) is m)
 
     abbrev center : Address
     center = center_descendant p (length p.digits + 1)
@@ -53,7 +59,8 @@ module _ (tree : CellsFormTrees) (intervals : CellsFormIntervals) (A K B : List 
     in_last x m = Contains-append_right A (K ++ B) x (Contains-append_right K B x m)
 
     -- the child of p on the way down to a cell below it
-    way : (x : Address) → IsCell x → IsAncestor p x → length p.digits < length x.digits → IsChild p (ancestor_at x (length p.digits + 1)) × IsAncestor (ancestor_at x (length p.digits + 1)) x
+    way : (x : Address) → IsCell x → IsAncestor p x → length p.digits < length x.digits
+        → IsChild p (ancestor_at x (length p.digits + 1)) × IsAncestor (ancestor_at x (length p.digits + 1)) x
     way x v over finer = (
       step_down tree p x (length x.digits) (record { valid = v; resolution_is = refl; under = over }) finer,
       tree.cut_ancestor x (length p.digits + 1) (omega (arith, finer)),
@@ -72,14 +79,17 @@ module _ (tree : CellsFormTrees) (intervals : CellsFormIntervals) (A K B : List 
           | inr not ↦ not
           | inl less ↦
               let v = valid_of a (in_first a m) in
-              let low : key a + 8 ^ (15 - length center.digits) ≤ key center = before_set a center m (kid center center_child) in
+              let low : key a + 8 ^ (15 - length center.digits) ≤ key center =
+              before_set a center m (kid center center_child) in
               let some = some_keys center in
               let over = inside intervals p a valid_p v (omega (arith, low, center_keys.0)) less in
               elim (cases_lt (length p.digits) (length a.digits)) [
                 | inr same ↦ absurd (omega (arith, low, some, center_keys.0, ap key (tree.same p a over same)))
                 | inl finer ↦
                     let w = way a v over finer in
-                    let n = before_set a (ancestor_at a (length p.digits + 1)) m (kid (ancestor_at a (length p.digits + 1)) w.0) in
+                    let n =
+                    before_set a (ancestor_at a (length p.digits + 1)) m
+                    (kid (ancestor_at a (length p.digits + 1)) w.0) in
                     let r = within intervals (ancestor_at a (length p.digits + 1)) a w.0.valid v w.1 in
                     absurd (omega (arith, n, r.1))
               ]
@@ -91,20 +101,26 @@ module _ (tree : CellsFormTrees) (intervals : CellsFormIntervals) (A K B : List 
           | inr not ↦ not
           | inl less ↦
               let v = valid_of b (in_last b m) in
-              let high : key center + 8 ^ (15 - length b.digits) ≤ key b = after_set center b (kid center center_child) m in
+              let high : key center + 8 ^ (15 - length b.digits) ≤ key b =
+              after_set center b (kid center center_child) m in
               let some = some_keys b in
               elim (cases_lt (key b) (key p)) [
                 | inr not ↦
                     let over = inside intervals b p v valid_p not less in
-                    let r = within intervals b center v center_child.valid (tree.through b p center over center_child.under) in
+                    let r =
+                    within intervals b center v center_child.valid
+                    (tree.through b p center over center_child.under) in
                     absurd (omega (arith, high, r.1))
                 | inl below ↦
-                    let over = inside intervals p b valid_p v (omega (arith, below)) (omega (arith, high, center_keys.1)) in
+                    let over =
+                    inside intervals p b valid_p v (omega (arith, below)) (omega (arith, high, center_keys.1)) in
                     elim (cases_lt (length p.digits) (length b.digits)) [
                       | inr same ↦ absurd (omega (arith, below, ap key (tree.same p b over same)))
                       | inl finer ↦
                           let w = way b v over finer in
-                          let n = after_set (ancestor_at b (length p.digits + 1)) b (kid (ancestor_at b (length p.digits + 1)) w.0) m in
+                          let n =
+                          after_set (ancestor_at b (length p.digits + 1)) b
+                          (kid (ancestor_at b (length p.digits + 1)) w.0) m in
                           let r = within intervals (ancestor_at b (length p.digits + 1)) b w.0.valid v w.1 in
                           absurd (omega (arith, n, some, r.0))
                     ]
@@ -114,7 +130,8 @@ module _ (tree : CellsFormTrees) (intervals : CellsFormIntervals) (A K B : List 
     parent_rises : AllPairs IsBeforeBlock (A ++ (p ∷ B))
     parent_rises =
         pairs_append IsBeforeBlock A (p ∷ B) (pairs_first IsBeforeBlock A (K ++ B) h.rises)
-        (pairs_cons IsBeforeBlock p B after_parent (pairs_second IsBeforeBlock K B (pairs_second IsBeforeBlock A (K ++ B) h.rises)))
+        (pairs_cons IsBeforeBlock p B after_parent
+        (pairs_second IsBeforeBlock K B (pairs_second IsBeforeBlock A (K ++ B) h.rises)))
         (λ a b m n. elim (contains_cases p b B n) [
           | inl e ↦ subst (IsBeforeBlock a) e (before_parent a m)
           | inr o ↦ pairs_across IsBeforeBlock A (K ++ B) h.rises a b m (Contains-append_right K B b o)
@@ -132,13 +149,21 @@ module _ (tree : CellsFormTrees) (intervals : CellsFormIntervals) (A K B : List 
         elim (Contains-append_cases A (K ++ B) c.by c.member) [
           | inl m ↦ record { by = c.by; member = Contains-append_left A (p ∷ B) c.by m; below = c.below }
           | inr m ↦ elim (Contains-append_cases K B c.by m) [
-            | inr n ↦ record { by = c.by; member = Contains-append_right A (p ∷ B) c.by (contains_tail p c.by B n); below = c.below }
+            | inr n ↦ record {
+              by = c.by;
+              member = Contains-append_right A (p ∷ B) c.by (contains_tail p c.by B n);
+              below = c.below;
+            }
             | inl n ↦
                 let b = of_kid c.by n in
                 record {
                   by = p;
                   member = Contains-append_right A (p ∷ B) p (contains_head p B);
-                  below = record { valid = c.below.valid; resolution_is = c.below.resolution_is; under = tree.through p c.by x b.under c.below.under };
+                  below = record {
+                    valid = c.below.valid;
+                    resolution_is = c.below.resolution_is;
+                    under = tree.through p c.by x b.under c.below.under;
+                  };
                 }
           ]
         ]
@@ -154,7 +179,10 @@ module _ (tree : CellsFormTrees) (intervals : CellsFormIntervals) (A K B : List 
                 let w = way x c.below.valid over (omega (arith, coarse, c.below.resolution_is)) in
                 record {
                   by = ancestor_at x (length p.digits + 1);
-                  member = Contains-append_right A (K ++ B) (ancestor_at x (length p.digits + 1)) (Contains-append_left K B (ancestor_at x (length p.digits + 1)) (kid (ancestor_at x (length p.digits + 1)) w.0));
+                  member =
+                      Contains-append_right A (K ++ B) (ancestor_at x (length p.digits + 1))
+                      (Contains-append_left K B (ancestor_at x (length p.digits + 1))
+                      (kid (ancestor_at x (length p.digits + 1)) w.0));
                   below = record { valid = c.below.valid; resolution_is = c.below.resolution_is; under = w.1 };
                 }
           ]
@@ -163,7 +191,10 @@ module _ (tree : CellsFormTrees) (intervals : CellsFormIntervals) (A K B : List 
     set_closed : IsReduction (A ++ (K ++ B)) (A ++ (p ∷ B))
     set_closed =
         record {
-          rising = record { valid = λ k d lt. valid_in (get_or (A ++ (p ∷ B)) k d) (Contains-get_or (A ++ (p ∷ B)) k d lt); rises = parent_rises };
+          rising = record {
+            valid = λ k d lt. valid_in (get_or (A ++ (p ∷ B)) k d) (Contains-get_or (A ++ (p ∷ B)) k d lt);
+            rises = parent_rises;
+          };
           alike = λ x. (covered_to x, covered_from x);
         }
 

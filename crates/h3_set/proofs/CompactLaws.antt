@@ -34,11 +34,13 @@ distinct : (xs : List Address) → AllPairs (λ a b. number_of a ≢ number_of b
 unfolding IsDistinct
 distinct [] h = tt
 distinct (x ∷ xs) h = (
-  each (λ y. same_cell x y ≡ false) xs (λ y m. other_number _ _ (rw m.2 at (h 0 (suc m.0) y (omega arith) (omega (arith, m.1))))),
+  each (λ y. same_cell x y ≡ false) xs
+      (λ y m. other_number _ _ (rw m.2 at (h 0 (suc m.0) y (omega arith) (omega (arith, m.1))))),
   distinct xs (λ i j d lt lj. h (suc i) (suc j) d (omega (arith, lt)) (omega (arith, lj))),
 )
 
-rises : (xs : List Address) → IsDistinct same_cell xs → AllPairs (λ a b. number_of a ≤ number_of b) xs → AllPairs (λ a b. number_of a < number_of b) xs
+rises : (xs : List Address) → IsDistinct same_cell xs → AllPairs (λ a b. number_of a ≤ number_of b) xs
+    → AllPairs (λ a b. number_of a < number_of b) xs
 unfolding IsDistinct
 rises [] p h i j d lt lj = absurd (omega (arith, lj))
 rises (x ∷ xs) p h i zero d lt lj = absurd (omega (arith, lt))
@@ -49,42 +51,58 @@ rises (x ∷ xs) p h zero (suc j) d lt lj =
     let differ : number_of x ≢ number_of b = λ e. (let same = same_number _ _ e in cc) in
     omega (arith, le, differ)
 rises (x ∷ xs) p h (suc i) (suc j) d lt lj =
-    rises xs p.1 (λ k l e lt' ll. h (suc k) (suc l) e (omega (arith, lt')) (omega (arith, ll))) i j d (omega (arith, lt)) (omega (arith, lj))
+    rises xs p.1 (λ k l e lt' ll. h (suc k) (suc l) e (omega (arith, lt')) (omega (arith, ll))) i j d
+    (omega (arith, lt)) (omega (arith, lj))
 
 -- ---- cells of one resolution
 
 module _ (tree : CellsFormTrees) where
   -- cells of one resolution cover themselves
-  pub cover_themselves : (cells : List Address) (r : ℕ) → All IsCell cells → All (λ c. resolution c ≡ r) cells → (x : Address) → IsCovered cells r x ↔ Contains cells x
+  pub cover_themselves : (cells : List Address) (r : ℕ) → All IsCell cells → All (λ c. resolution c ≡ r) cells
+      → (x : Address) → IsCovered cells r x ↔ Contains cells x
   cover_themselves cells r valid level x = (
     (λ c.
         let at : length c.by.digits ≡ r = All-contains (λ a. resolution a ≡ r) cells c.by level c.member in
-        subst (Contains cells) (sym (tree.same c.by x c.below.under (omega (arith, at, c.below.resolution_is)))) c.member),
+        subst (Contains cells) (sym (tree.same c.by x c.below.under (omega (arith, at, c.below.resolution_is))))
+        c.member),
     (λ m. record {
       by = x;
       member = m;
-      below = record { valid = All-contains IsCell cells x valid m; resolution_is = All-contains (λ a. resolution a ≡ r) cells x level m; under = tree.own x };
+      below = record {
+        valid = All-contains IsCell cells x valid m;
+        resolution_is = All-contains (λ a. resolution a ≡ r) cells x level m;
+        under = tree.own x;
+      };
     }),
   )
 
 module _ (tree : CellsFormTrees) (listed : CellsUpToAreListed) where
   -- the compacted list does not depend on the order of the cells
-  pub compacted_permuted : (cells others : List Address) → All IsCell cells → IsPermutation cells others → compacted cells ≡ compacted others
+  pub compacted_permuted : (cells others : List Address) → All IsCell cells → IsPermutation cells others
+      → compacted cells ≡ compacted others
   compacted_permuted cells others valid p =
       let v = All-permutation IsCell cells others p valid in
       let same = members_permuted cells others p in
-      coverages_decide tree listed cells others 15 valid v (finest_is_fine cells valid) (finest_is_fine others v) (omega arith) (λ x. (
+      coverages_decide tree listed cells others 15 valid v (finest_is_fine cells valid) (finest_is_fine others v)
+      (omega arith) (λ x. (
         (λ c. record { by = c.by; member = (same c.by).0 c.member; below = c.below }),
         (λ c. record { by = c.by; member = (same c.by).1 c.member; below = c.below }),
       ))
 
   -- in ascending order the cells of a compacted list are that list
-  pub sorted_is : (cells sorted : List Address) → All IsCell cells → IsPermutation (compacted cells) sorted → AllPairs (λ a b. number_of a ≤ number_of b) sorted → IsCompacted (IsCovered cells (finest cells)) (finest cells) sorted
+  pub sorted_is : (cells sorted : List Address) → All IsCell cells → IsPermutation (compacted cells) sorted
+      → AllPairs (λ a b. number_of a ≤ number_of b) sorted
+      → IsCompacted (IsCovered cells (finest cells)) (finest cells) sorted
   sorted_is cells sorted valid p ascends =
       let k = compacted_made tree listed cells valid in
       let same = members_permuted (compacted cells) sorted p in
       record {
-        ascending = rises sorted (IsDistinct-IsPermutation same_cell (λ a b. flips (number_of a) (number_of b)) (compacted cells) sorted p (distinct (compacted cells) (λ i j d lt lj. (let up = k.ascending i j d lt lj in λ e. omega (arith, up, e))))) ascends;
+        ascending =
+            rises sorted
+            (IsDistinct-IsPermutation same_cell (λ a b. flips (number_of a) (number_of b)) (compacted cells) sorted
+            p (distinct (compacted cells)
+            (λ i j d lt lj. (let up = k.ascending i j d lt lj in λ e. omega (arith, up, e)))))
+            ascends;
         cells_valid = All-permutation IsCell (compacted cells) sorted p k.cells_valid;
         coarse = All-permutation (λ c. resolution c ≤ finest cells) (compacted cells) sorted p k.coarse;
         apart = apart_permuted (compacted cells) sorted p k.apart;
@@ -92,5 +110,6 @@ module _ (tree : CellsFormTrees) (listed : CellsUpToAreListed) where
           (λ s. (let c = (k.covers x).0 s in record { by = c.by; member = (same c.by).0 c.member; below = c.below })),
           (λ c. (k.covers x).1 (record { by = c.by; member = (same c.by).1 c.member; below = c.below })),
         );
-        no_siblings = λ q h. k.no_siblings q (record { valid = h.valid; coarse = h.coarse; all = λ y b. (same y).1 (h.all y b) });
+        no_siblings =
+            λ q h. k.no_siblings q (record { valid = h.valid; coarse = h.coarse; all = λ y b. (same y).1 (h.all y b) });
       }

@@ -38,17 +38,23 @@ pub apart_where : (cells : List Address) → has_overlap cells ≡ false → IsA
 apart_where [] h i j d lt lj o = omega (arith, lj)
 apart_where (c ∷ cells) h zero zero d lt lj o = omega (arith, lt)
 apart_where (c ∷ cells) h zero (suc j) d lt lj o =
-    let found : list_any (overlaps c) cells ≡ true = list_any_at (overlaps c) cells j d (omega (arith, lj)) ((overlaps_decides c (get_or cells j d)).1 o) in
+    let found : list_any (overlaps c) cells ≡ true =
+    list_any_at (overlaps c) cells j d (omega (arith, lj)) ((overlaps_decides c (get_or cells j d)).1 o) in
     both_ways (list_any (overlaps c) cells) (neither (list_any (overlaps c) cells) (has_overlap cells) h).0 found
 apart_where (c ∷ cells) h (suc i) zero d lt lj o = omega (arith, lt)
 apart_where (c ∷ cells) h (suc i) (suc j) d lt lj o =
-    apart_where cells (neither (list_any (overlaps c) cells) (has_overlap cells) h).1 i j d (omega (arith, lt)) (omega (arith, lj)) o
+    apart_where cells (neither (list_any (overlaps c) cells) (has_overlap cells) h).1 i j d (omega (arith, lt))
+    (omega (arith, lj)) o
 
 pub none_where : (cells : List Address) → IsApart cells → has_overlap cells ≡ false
 none_where [] h = refl
 none_where (c ∷ cells) h =
-    let here : list_any (overlaps c) cells ≡ false = list_any_none (overlaps c) cells (λ k d lt. not_true (overlaps c (get_or cells k d)) (λ t. h 0 (suc k) d (omega arith) (omega (arith, lt)) ((overlaps_decides c (get_or cells k d)).0 t))) in
-    let others : has_overlap cells ≡ false = none_where cells (λ i j d lt lj. h (suc i) (suc j) d (omega (arith, lt)) (omega (arith, lj))) in
+    let here : list_any (overlaps c) cells ≡ false =
+    list_any_none (overlaps c) cells (λ k d lt.
+    not_true (overlaps c (get_or cells k d))
+    (λ t. h 0 (suc k) d (omega arith) (omega (arith, lt)) ((overlaps_decides c (get_or cells k d)).0 t))) in
+    let others : has_overlap cells ≡ false =
+    none_where cells (λ i j d lt lj. h (suc i) (suc j) d (omega (arith, lt)) (omega (arith, lj))) in
     rw (here, others) refl
 
 -- the test finds exactly the lists with cells that overlap
@@ -58,23 +64,30 @@ overlaps_found cells = (apart_where cells, none_where cells)
 -- cells of one resolution overlap only where they are one
 pub one_resolution : (tree : CellsFormTrees) → OneResolutionIsApart
 one_resolution tree cells r level = (
-  (λ apart i j d lt lj e. apart i j d lt lj (inl (subst (IsAncestor (get_or cells i d)) e (tree.own (get_or cells i d))))),
+  (λ apart i j d lt lj e.
+      apart i j d lt lj (inl (subst (IsAncestor (get_or cells i d)) e (tree.own (get_or cells i d))))),
   (λ once i j d lt lj o.
       let a = get_or cells i d in
       let b = get_or cells j d in
       let at_a : length a.digits ≡ r = level i d (omega (arith, lt, lj)) in
       let at_b : length b.digits ≡ r = level j d lj in
-      once i j d lt lj (elim o [ inl above ↦ sym (tree.same a b above (omega (arith, at_a, at_b))) | inr above ↦ tree.same b a above (omega (arith, at_a, at_b)) ])),
+      once i j d lt lj (elim o [
+        | inl above ↦ sym (tree.same a b above (omega (arith, at_a, at_b)))
+        | inr above ↦ tree.same b a above (omega (arith, at_a, at_b))
+      ])),
 )
 
-found_by : (cells : List Address) (i j : ℕ) (d : Address) → i < j → j < length cells → Overlap (get_or cells i d) (get_or cells j d) → (b : Bool) → has_overlap cells ≡ b → b ≡ true
+found_by : (cells : List Address) (i j : ℕ) (d : Address) → i < j → j < length cells
+    → Overlap (get_or cells i d) (get_or cells j d) → (b : Bool) → has_overlap cells ≡ b → b ≡ true
 found_by cells i j d lt lj o true h = refl
 found_by cells i j d lt lj o false h = absurd (apart_where cells h i j d lt lj o)
 
-pub overlap_at : (cells : List Address) (i j : ℕ) (d : Address) → i < j → j < length cells → Overlap (get_or cells i d) (get_or cells j d) → has_overlap cells ≡ true
+pub overlap_at : (cells : List Address) (i j : ℕ) (d : Address) → i < j → j < length cells
+    → Overlap (get_or cells i d) (get_or cells j d) → has_overlap cells ≡ true
 overlap_at cells i j d lt lj o = found_by cells i j d lt lj o _ refl
 
-one_answer : (xs ys : List Address) → IsPermutation xs ys → (a b : Bool) → has_overlap xs ≡ a → has_overlap ys ≡ b → a ≡ b
+one_answer : (xs ys : List Address) → IsPermutation xs ys → (a b : Bool) → has_overlap xs ≡ a → has_overlap ys ≡ b
+    → a ≡ b
 one_answer xs ys p true true e f = refl
 one_answer xs ys p false false e f = refl
 one_answer xs ys p false true e f =
@@ -85,10 +98,12 @@ one_answer xs ys p true false e f =
 pub overlap_permuted : (xs ys : List Address) → IsPermutation xs ys → has_overlap xs ≡ has_overlap ys
 overlap_permuted xs ys p = one_answer xs ys p _ _ refl refl
 
-pub not_before : (intervals : CellsFormIntervals) (a b : Address) → IsCell a → IsCell b → key a ≤ key b → key b < key a + 8 ^ (15 - length b.digits) → Overlap a b
+pub not_before : (intervals : CellsFormIntervals) (a b : Address) → IsCell a → IsCell b → key a ≤ key b
+    → key b < key a + 8 ^ (15 - length b.digits) → Overlap a b
 not_before intervals a b ha hb le near = inr (inside intervals b a hb ha le near)
 
-module _ (intervals : CellsFormIntervals) (cells : List Address) (valid : All IsCell cells) (order : IsInOrder cells) where
+module _ (intervals : CellsFormIntervals) (cells : List Address) (valid : All IsCell cells)
+    (order : IsInOrder cells) where
   up_to : (i j : ℕ) (d : Address) → i ≤ j → j < length cells → key (get_or cells i d) ≤ key (get_or cells j d)
   up_to i j d le lj =
       elim (cases_lt i j) [
@@ -97,7 +112,9 @@ module _ (intervals : CellsFormIntervals) (cells : List Address) (valid : All Is
       ]
 
   -- where no neighbors overlap, no two cells do
-  pub by_neighbors : ((k : ℕ) (d : Address) → 0 < k → k < length cells → IsBeforeBlock (get_or cells (k - 1) d) (get_or cells k d)) → IsApart cells
+  pub by_neighbors :
+      ((k : ℕ) (d : Address) → 0 < k → k < length cells → IsBeforeBlock (get_or cells (k - 1) d) (get_or cells k d))
+      → IsApart cells
   by_neighbors h i j d lt lj o =
       let a = get_or cells i d in
       let b = get_or cells j d in
@@ -114,7 +131,8 @@ module _ (intervals : CellsFormIntervals) (cells : List Address) (valid : All Is
 
 -- ---- one more cell of a list that is read
 
-pub within_more : (P : Address → Type 0) (cells : List Address) (i : ℕ) (x : Address) → i < length cells → x ≡ get_or cells i x → AllWithin P cells 0 i → P x → AllWithin P cells 0 (i + 1)
+pub within_more : (P : Address → Type 0) (cells : List Address) (i : ℕ) (x : Address) → i < length cells
+    → x ≡ get_or cells i x → AllWithin P cells 0 i → P x → AllWithin P cells 0 (i + 1)
 within_more P cells i x lt is h p k d low l =
     elim (cases_lt k i) [
       | inl less ↦ h k d low less
@@ -123,7 +141,9 @@ within_more P cells i x lt is h p k d low l =
 
 -- of the first i cells each comes before those after it, and their keys are below an end
 abbrev pub Rises : List Address → ℕ → ℕ → Type 0
-Rises cells i end = ((a b : ℕ) (d : Address) → a < b → b < i → IsBeforeBlock (get_or cells a d) (get_or cells b d)) × ((a : ℕ) (d : Address) → a < i → key (get_or cells a d) < end)
+Rises cells i end =
+    ((a b : ℕ) (d : Address) → a < b → b < i → IsBeforeBlock (get_or cells a d) (get_or cells b d))
+    × ((a : ℕ) (d : Address) → a < i → key (get_or cells a d) < end)
 
 both : (a b : Bool) → (a && b) ≡ true → (a ≡ true) × (b ≡ true)
 both true b h = (refl, h)
@@ -132,7 +152,9 @@ both false b h = cc
 at_most : (m n : ℕ) → nat_le m n ≡ true → m ≤ n
 at_most m n h = grind (arith, nat_tests)
 
-pub rise_more : (cells : List Address) (i end next p : ℕ) (x : Address) (rises : Bool) → p ≡ 8 ^ (15 - length x.digits) → i < length cells → x ≡ get_or cells i x → next ≡ key x + 1 → (rises ≡ true → Rises cells i end) → (rises && nat_le (end + p) next) ≡ true → Rises cells (i + 1) next
+pub rise_more : (cells : List Address) (i end next p : ℕ) (x : Address) (rises : Bool) → p ≡ 8 ^ (15 - length x.digits)
+    → i < length cells → x ≡ get_or cells i x → next ≡ key x + 1 → (rises ≡ true → Rises cells i end)
+    → (rises && nat_le (end + p) next) ≡ true → Rises cells (i + 1) next
 rise_more cells i end next p x rises size lt is at h t =
     let two = both rises (nat_le (end + p) next) t in
     let r = h two.0 in
@@ -152,7 +174,8 @@ rise_more cells i end next p x rises size lt is at h t =
       ],
     )
 
-module _ (intervals : CellsFormIntervals) (cells : List Address) (valid : All IsCell cells) (rises : AllPairs IsBeforeBlock cells) where
+module _ (intervals : CellsFormIntervals) (cells : List Address) (valid : All IsCell cells)
+    (rises : AllPairs IsBeforeBlock cells) where
   pub rising_order : IsInOrder cells
   rising_order i j d lt lj = let h = rises i j d lt lj in omega (arith, h)
 
@@ -161,11 +184,14 @@ module _ (intervals : CellsFormIntervals) (cells : List Address) (valid : All Is
       by_neighbors intervals cells valid rising_order (λ k d pos lt. rises (k - 1) k d (omega (arith, pos)) lt)
 
 -- cells in order of which no two overlap rise
-pub apart_rises : (intervals : CellsFormIntervals) (cells : List Address) → All IsCell cells → IsInOrder cells → IsApart cells → AllPairs IsBeforeBlock cells
+pub apart_rises : (intervals : CellsFormIntervals) (cells : List Address) → All IsCell cells → IsInOrder cells
+    → IsApart cells → AllPairs IsBeforeBlock cells
 apart_rises intervals cells valid order apart i j d lt lj =
     let a = get_or cells i d in
     let b = get_or cells j d in
     elim (cases_lt (key b) (key a + 8 ^ (15 - length b.digits))) [
       | inr not ↦ not
-      | inl less ↦ absurd (apart i j d lt lj (not_before intervals a b (valid i d (omega (arith, lt, lj))) (valid j d lj) (order i j d lt lj) less))
+      | inl less ↦
+          absurd (apart i j d lt lj
+          (not_before intervals a b (valid i d (omega (arith, lt, lj))) (valid j d lj) (order i j d lt lj) less))
     ]

@@ -18,14 +18,16 @@ use Rattle.h3_set.proofs.TreeLaws.{contains_cases, contains_head, contains_tail}
 
 -- a relation between any two elements that does not depend on their order
 module _ (R : Address → Address → Type 0) (turned : (a b : Address) → R a b → R b a) where
-  at_two : (ys : List Address) → AllPairs R ys → (a b : ℕ) (d : Address) → a ≢ b → a < length ys → b < length ys → R (get_or ys a d) (get_or ys b d)
+  at_two : (ys : List Address) → AllPairs R ys → (a b : ℕ) (d : Address) → a ≢ b → a < length ys → b < length ys
+      → R (get_or ys a d) (get_or ys b d)
   at_two ys h a b d ne la lb =
       elim (cases_lt a b) [
         | inl less ↦ h a b d less lb
         | inr more ↦ turned (get_or ys b d) (get_or ys a d) (h b a d (omega (arith, more, ne)) la)
       ]
 
-  one_swap : (ys : List Address) (p q : ℕ) → p < length ys → q < length ys → length (swap ys p q) ≡ length ys → AllPairs R ys → AllPairs R (swap ys p q)
+  one_swap : (ys : List Address) (p q : ℕ) → p < length ys → q < length ys → length (swap ys p q) ≡ length ys
+      → AllPairs R ys → AllPairs R (swap ys p q)
   one_swap ys p q lp lq size h i j d lt lj =
       let s = swapped_from_swap ys (swap ys p q) p q d lp lq refl in
       let li : i < length ys = omega (arith, lt, lj, size) in
@@ -52,7 +54,11 @@ module _ (R : Address → Address → Type 0) (turned : (a b : Address) → R a 
 
   pub pairs_permuted : (xs ys : List Address) → IsPermutation xs ys → AllPairs R xs → AllPairs R ys
   pairs_permuted xs ys p h =
-      IsPermutation-keeps xs (AllPairs R) h (λ l i j li lj a. one_swap l i j li lj (length_permutation l (swap l i j) (IsPermutation-swap l (swap l i j) i j li lj refl)) a) ys p
+      IsPermutation-keeps xs (AllPairs R) h
+      (λ l i j li lj a.
+      one_swap l i j li lj
+      (length_permutation l (swap l i j) (IsPermutation-swap l (swap l i j) i j li lj refl)) a)
+      ys p
 
 pub apart_permuted : (xs ys : List Address) → IsPermutation xs ys → IsApart xs → IsApart ys
 apart_permuted xs ys p h =
@@ -71,8 +77,11 @@ pulled (y ∷ ys) x m =
     elim (contains_cases y x ys m) [
       | inl e ↦ (ys, subst (λ z. IsPermutation (y ∷ ys) (z ∷ ys)) e (IsPermutation-refl (y ∷ ys)))
       | inr n ↦
-          let r = pulled ys x n in
-          (y ∷ r.0, IsPermutation-trans (y ∷ ys) (y ∷ x ∷ r.0) (x ∷ y ∷ r.0) (IsPermutation-cons y ys (x ∷ r.0) r.1) (IsPermutation-middle (y ∷ []) x r.0))
+          let r = pulled ys x n in (
+            y ∷ r.0,
+            IsPermutation-trans (y ∷ ys) (y ∷ x ∷ r.0) (x ∷ y ∷ r.0) (IsPermutation-cons y ys (x ∷ r.0) r.1)
+                (IsPermutation-middle (y ∷ []) x r.0),
+          )
     ]
 
 apart_tail : (x : Address) (xs : List Address) → IsApart (x ∷ xs) → IsApart xs
@@ -83,17 +92,21 @@ module _ (tree : CellsFormTrees) where
   apart_head x z xs h m e =
       h 0 (suc m.0) z (omega arith) (omega (arith, m.1)) (inl (rw m.2 (subst (λ a. IsAncestor x a) e (tree.own x))))
 
-  pub permuted : (xs ys : List Address) → IsApart xs → IsApart ys → ((z : Address) → Contains xs z → Contains ys z) → ((z : Address) → Contains ys z → Contains xs z) → IsPermutation xs ys
+  pub permuted : (xs ys : List Address) → IsApart xs → IsApart ys → ((z : Address) → Contains xs z → Contains ys z)
+      → ((z : Address) → Contains ys z → Contains xs z) → IsPermutation xs ys
   permuted [] [] p q f g = IsPermutation-refl []
   permuted [] (y ∷ ys) p q f g = absurd (omega (arith, (g y (contains_head y ys)).1))
   permuted (x ∷ xs) ys p q f g =
       let r = pulled ys x (f x (contains_head x xs)) in
       let back = IsPermutation-sym ys (x ∷ r.0) r.1 in
       let q' : IsApart (x ∷ r.0) = apart_permuted ys (x ∷ r.0) r.1 q in
-      let rest = permuted xs r.0 (apart_tail x xs p) (apart_tail x r.0 q') (λ z m. elim (contains_cases x z r.0 (Contains-permutation ys (x ∷ r.0) z r.1 (f z (contains_tail x z xs m)))) [
+      let rest =
+      permuted xs r.0 (apart_tail x xs p) (apart_tail x r.0 q') (λ z m.
+      elim (contains_cases x z r.0 (Contains-permutation ys (x ∷ r.0) z r.1 (f z (contains_tail x z xs m)))) [
         | inl e ↦ absurd (apart_head x z xs p m e)
         | inr n ↦ n
-      ]) (λ z m. elim (contains_cases x z xs (g z (Contains-permutation (x ∷ r.0) ys z back (contains_tail x z r.0 m)))) [
+      ]) (λ z m.
+      elim (contains_cases x z xs (g z (Contains-permutation (x ∷ r.0) ys z back (contains_tail x z r.0 m)))) [
         | inl e ↦ absurd (apart_head x z r.0 q' m e)
         | inr n ↦ n
       ]) in
@@ -105,18 +118,28 @@ copied_front cells copied rest is = take_at copied rest (length cells) (ap lengt
 
 -- and worked on there, as a list of their own
 module _ (cells copied worked rest others : List Address) (is : copied ≡ cells) where
-  pub reordered : IsPermutation (take (length cells) (copied ++ rest)) worked → IsPermutation cells (take (length cells) (worked ++ others))
+  pub reordered : IsPermutation (take (length cells) (copied ++ rest)) worked
+      → IsPermutation cells (take (length cells) (worked ++ others))
   reordered same =
-      let order : IsPermutation cells worked = subst (λ l. IsPermutation l worked) (copied_front cells copied rest is) same in
-      subst (IsPermutation cells) (sym (take_at worked others (length cells) (length_permutation cells worked order))) order
+      let order : IsPermutation cells worked =
+      subst (λ l. IsPermutation l worked) (copied_front cells copied rest is) same in
+      subst (IsPermutation cells) (sym (take_at worked others (length cells) (length_permutation cells worked order)))
+      order
 
   -- what holds of the list and of the first cells of what became of it
-  pub in_front : (P : List Address → List Address → Type 0) (r : Result ℕ H3Error) → length worked ≡ length (take (length cells) (copied ++ rest)) → IfOk r (λ m. m ≤ length (take (length cells) (copied ++ rest))) → IfOk r (λ m. P (take (length cells) (copied ++ rest)) (take m worked)) → IfOk r (λ m. P cells (take m (worked ++ others)))
+  pub in_front : (P : List Address → List Address → Type 0) (r : Result ℕ H3Error)
+      → length worked ≡ length (take (length cells) (copied ++ rest))
+      → IfOk r (λ m. m ≤ length (take (length cells) (copied ++ rest)))
+      → IfOk r (λ m. P (take (length cells) (copied ++ rest)) (take m worked))
+      → IfOk r (λ m. P cells (take m (worked ++ others)))
   in_front P (Ok m) size fewer h =
-      subst (λ l. P l (take m (worked ++ others))) (copied_front cells copied rest is) (subst (P (take (length cells) (copied ++ rest))) (sym (take-append-le m worked others (omega (arith, size, fewer)))) h)
+      subst (λ l. P l (take m (worked ++ others))) (copied_front cells copied rest is)
+      (subst (P (take (length cells) (copied ++ rest)))
+      (sym (take-append-le m worked others (omega (arith, size, fewer)))) h)
   in_front P (Err e) size fewer h = tt
 
-  pub started_in_front : (r : Result Compaction H3Error) → length worked ≡ length (take (length cells) (copied ++ rest)) → IfOk r (IsStarted (take (length cells) (copied ++ rest)) worked) → IfOk r (IsStarted cells (worked ++ others))
+  pub started_in_front : (r : Result Compaction H3Error) → length worked ≡ length (take (length cells) (copied ++ rest))
+      → IfOk r (IsStarted (take (length cells) (copied ++ rest)) worked) → IfOk r (IsStarted cells (worked ++ others))
   started_in_front (Ok c) size h =
       let s : IsStarted cells worked c = subst (λ l. IsStarted l worked c) (copied_front cells copied rest is) h in
       let front = take-append-le (slots_in_use c) worked others (omega (arith, size, h.in_use)) in

@@ -7,8 +7,10 @@ use Rattle.h3_tree.specs.PostOrder.{post_order_key as key}
 
 -- what a round at q makes of the first i cells
 pub data InSeen (all : List Address) (q i : ℕ) : Address → Type 0 where
-  kept : {x : Address} → Contains (take i all) x → (length x.digits ≡ q → ¬ HasChildren (Contains all) (parent_of x)) → InSeen all q i x
-  made : {x : Address} → length x.digits + 1 ≡ q → HasChildren (Contains all) x → (y : Address) → Contains (take i all) y → IsDescendant x q y → InSeen all q i x
+  kept : {x : Address} → Contains (take i all) x → (length x.digits ≡ q → ¬ HasChildren (Contains all) (parent_of x))
+      → InSeen all q i x
+  made : {x : Address} → length x.digits + 1 ≡ q → HasChildren (Contains all) x → (y : Address)
+      → Contains (take i all) y → IsDescendant x q y → InSeen all q i x
 
 -- the cells written for the first i
 pub record IsRoundSoFar (all : List Address) (q i : ℕ) (written : List Address) : Type 0 where
@@ -28,7 +30,8 @@ pub record IsRoundLoop (all : List Address) (q i w : ℕ) (cells : List Address)
 pub record IsMerging (all : List Address) (q i w : ℕ) (cells : List Address) : Type 0 where
   pub so_far : IsRoundLoop all q i w cells
   pub inside : i ≤ length all
-  pub whole : (p : Address) → length p.digits + 1 ≡ q → HasChildren (Contains all) p → (y z : Address) → IsDescendant p q y → IsDescendant p q z → Contains (take i all) y → Contains (take i all) z
+  pub whole : (p : Address) → length p.digits + 1 ≡ q → HasChildren (Contains all) p → (y z : Address)
+      → IsDescendant p q y → IsDescendant p q z → Contains (take i all) y → Contains (take i all) z
 
 -- and what is written is in order, before all that comes
 pub record IsMergingInOrder (all : List Address) (q i w : ℕ) (cells : List Address) : Type 0 where

@@ -17,28 +17,33 @@ RoundsReachTheTop =
 -- CompactedListsAreUnique: what a list covers has one compacted list
 abbrev pub CompactedListsAreUnique : Type 0
 CompactedListsAreUnique =
-    (cells : List Address) (r : ℕ) (a b : List Address) → r ≤ 15 → IsCompacted (IsCovered cells r) r a → IsCompacted (IsCovered cells r) r b → a ≡ b
+    (cells : List Address) (r : ℕ) (a b : List Address) → r ≤ 15 → IsCompacted (IsCovered cells r) r a
+    → IsCompacted (IsCovered cells r) r b → a ≡ b
 
 -- CompactedListsAreTheOnlyOnes: what the cells of a list cover has no other compacted list than `compacted` of the list
 abbrev pub CompactedListsAreTheOnlyOnes : Type 0
 CompactedListsAreTheOnlyOnes =
-    (cells others : List Address) → All IsCell cells → IsCompacted (IsCovered cells (finest cells)) (finest cells) others → others ≡ compacted cells
+    (cells others : List Address) → All IsCell cells
+    → IsCompacted (IsCovered cells (finest cells)) (finest cells) others → others ≡ compacted cells
 
 -- CompactedListsHoldTheTops: the compacted list of cells has the top cells of what they cover, and no others
 abbrev pub CompactedListsHoldTheTops : Type 0
 CompactedListsHoldTheTops =
-    (cells : List Address) → All IsCell cells → (x : Address) → Contains (compacted cells) x ↔ IsTop (IsCovered cells (finest cells)) (finest cells) x
+    (cells : List Address) → All IsCell cells → (x : Address)
+    → Contains (compacted cells) x ↔ IsTop (IsCovered cells (finest cells)) (finest cells) x
 
 -- CompactedListsCoverOnce: uncompacted to the finest resolution of the cells, their compacted list has each cell that
 -- they cover once, and no other
 abbrev pub CompactedListsCoverOnce : Type 0
 CompactedListsCoverOnce =
-    (cells : List Address) → All IsCell cells → HoldsOnce (IsCovered cells (finest cells)) (uncompacted (compacted cells) (finest cells))
+    (cells : List Address) → All IsCell cells
+    → HoldsOnce (IsCovered cells (finest cells)) (uncompacted (compacted cells) (finest cells))
 
 -- OneResolutionCoversItself: cells of one resolution cover themselves, and no others
 abbrev pub OneResolutionCoversItself : Type 0
 OneResolutionCoversItself =
-    (cells : List Address) → All IsCell cells → All (λ c. resolution c ≡ finest cells) cells → (x : Address) → IsCovered cells (finest cells) x ↔ Contains cells x
+    (cells : List Address) → All IsCell cells → All (λ c. resolution c ≡ finest cells) cells → (x : Address)
+    → IsCovered cells (finest cells) x ↔ Contains cells x
 
 -- OverlapsAreFound: `has_overlap` is false exactly where no cells at two places of a list overlap
 abbrev pub OverlapsAreFound : Type 0
@@ -58,22 +63,26 @@ pub record CompactsInParts (cells : List Address) (parts : List (List Address)) 
 -- ListsCompactInParts: a list may be divided into parts in any way: `CompactsInParts`
 abbrev pub ListsCompactInParts : Type 0
 ListsCompactInParts =
-    (cells : List Address) (parts : List (List Address)) → All IsCell cells → IsPermutation cells (flat_map (λ part. part) parts) → CompactsInParts cells parts
+    (cells : List Address) (parts : List (List Address)) → All IsCell cells
+    → IsPermutation cells (flat_map (λ part. part) parts) → CompactsInParts cells parts
 
 -- CompactedListsAreCompacted: `compacted` of a list of cells is a compacted list of what they cover
 abbrev pub CompactedListsAreCompacted : Type 0
 CompactedListsAreCompacted =
-    (cells : List Address) → All IsCell cells → IsCompacted (IsCovered cells (finest cells)) (finest cells) (compacted cells)
+    (cells : List Address) → All IsCell cells
+    → IsCompacted (IsCovered cells (finest cells)) (finest cells) (compacted cells)
 
 -- CompactedListsCoverAlike: it covers the same as the cells at each resolution that is not coarser than any of them
 abbrev pub CompactedListsCoverAlike : Type 0
 CompactedListsCoverAlike =
-    (cells : List Address) (r : ℕ) → All IsCell cells → finest cells ≤ r → (x : Address) → IsCovered cells r x ↔ IsCovered (compacted cells) r x
+    (cells : List Address) (r : ℕ) → All IsCell cells → finest cells ≤ r → (x : Address)
+    → IsCovered cells r x ↔ IsCovered (compacted cells) r x
 
 -- CoveragesDecideLists: lists that cover the same at one such resolution have the same compacted list
 abbrev pub CoveragesDecideLists : Type 0
 CoveragesDecideLists =
-    (cells others : List Address) (r : ℕ) → All IsCell cells → All IsCell others → finest cells ≤ r → finest others ≤ r → r ≤ 15 → ((x : Address) → IsCovered cells r x ↔ IsCovered others r x) → compacted cells ≡ compacted others
+    (cells others : List Address) (r : ℕ) → All IsCell cells → All IsCell others → finest cells ≤ r → finest others ≤ r
+    → r ≤ 15 → ((x : Address) → IsCovered cells r x ↔ IsCovered others r x) → compacted cells ≡ compacted others
 
 -- ApartInAnyOrder: whether no cells of a list overlap does not depend on their order
 abbrev pub ApartInAnyOrder : Type 0
@@ -88,9 +97,11 @@ AncestorsAreFound = (a c : Address) → (is_ancestor a c ≡ true) ↔ IsAncesto
 -- compacted list
 abbrev pub ReducedListsAreCompacted : Type 0
 ReducedListsAreCompacted =
-    (cells : List Address) → All IsCell cells → IsApart cells → ((p : Address) → ¬ HasChildren (Contains cells) p) → (x : Address) → Contains cells x ↔ Contains (compacted cells) x
+    (cells : List Address) → All IsCell cells → IsApart cells → ((p : Address) → ¬ HasChildren (Contains cells) p)
+    → (x : Address) → Contains cells x ↔ Contains (compacted cells) x
 
 -- ReducedListsAreReordered: such cells are those of their compacted list, in some order
 abbrev pub ReducedListsAreReordered : Type 0
 ReducedListsAreReordered =
-    (cells : List Address) → All IsCell cells → IsApart cells → ((p : Address) → ¬ HasChildren (Contains cells) p) → IsPermutation (compacted cells) cells
+    (cells : List Address) → All IsCell cells → IsApart cells → ((p : Address) → ¬ HasChildren (Contains cells) p)
+    → IsPermutation (compacted cells) cells

@@ -17,13 +17,16 @@ pub record Reads (old now : Option (List ℕ)) (limit reads_left size : ℕ) (fi
 one_less : (reads reads' size : ℕ) → reads' + 1 ≡ reads → reads * size ≡ reads' * size + size
 one_less reads reads' size e = rw (← e) (grind arith)
 
-pub reads_more : {old now : Option (List ℕ)} {limit reads size : ℕ} {first text : List ℕ} → Reads old now limit reads size first text
+pub reads_more : {old now : Option (List ℕ)} {limit reads size : ℕ} {first text : List ℕ}
+    → Reads old now limit reads size first text
     → (now' : Option (List ℕ)) (reads' : ℕ) (page : List ℕ) (n : ℕ) (text' : List ℕ)
-    → Pulls now now' page n → 0 < n → n ≤ length page → length page ≡ size → reads' + 1 ≡ reads → text' ≡ text ++ take n page
+    → Pulls now now' page n → 0 < n → n ≤ length page → length page ≡ size → reads' + 1 ≡ reads
+    → text' ≡ text ++ take n page
     → Reads old now' limit reads' size first text'
 reads_more {old} {now} {limit} {reads} {size} {first} {text} r now' reads' page n text' p some fits full count grown =
     let front : length (take n page) ≡ n = omega (arith, length-take {A = ℕ}) in
-    let parts : length (r.bytes ++ take n page) ≡ length r.bytes + length (take n page) = length-append r.bytes (take n page) in
+    let parts : length (r.bytes ++ take n page) ≡ length r.bytes + length (take n page) =
+    length-append r.bytes (take n page) in
     let counted : limit ≤ reads + length r.bytes = r.counted in
     let short : length r.bytes + reads * size ≤ limit * size = r.short in
     let less : reads * size ≡ reads' * size + size = one_less reads reads' size count in
@@ -38,7 +41,8 @@ reads_more {old} {now} {limit} {reads} {size} {first} {text} r now' reads' page 
 -- ---- the end of the reading
 
 -- the bytes that were read, and those that are still left in the source
-pub all_bytes : (old now : Option (List ℕ)) (bytes : List ℕ) → Consumes old now bytes → (rest : List ℕ) × HasLeft old (bytes ++ rest)
+pub all_bytes : (old now : Option (List ℕ)) (bytes : List ℕ) → Consumes old now bytes
+    → (rest : List ℕ) × HasLeft old (bytes ++ rest)
 all_bytes None now bytes known = ([], tt)
 all_bytes (Some xs) None bytes known = absurd known
 all_bytes (Some xs) (Some ys) bytes known = (ys, known)
@@ -49,11 +53,13 @@ at_end (Some xs) None bytes known end = absurd known
 at_end (Some xs) (Some ys) bytes known end = known ∙ ap (λ l. bytes ++ l) end ∙ append-nil bytes
 
 -- some bytes are left, whatever was read
-pub reads_some : {old now : Option (List ℕ)} {limit reads size : ℕ} {first text : List ℕ} → Reads old now limit reads size first text → (bytes : List ℕ) × HasLeft old bytes
+pub reads_some : {old now : Option (List ℕ)} {limit reads size : ℕ} {first text : List ℕ}
+    → Reads old now limit reads size first text → (bytes : List ℕ) × HasLeft old bytes
 reads_some {old} {now} r = let (rest, held) = all_bytes old now r.bytes r.consumed in (r.bytes ++ rest, held)
 
 -- a read fails, or none is left
-pub reads_stopped : {old now : Option (List ℕ)} {limit reads size : ℕ} {first text : List ℕ} → Reads old now limit reads size first text → (failed : Type 0) → (reads ≡ 0) ⊎ failed
+pub reads_stopped : {old now : Option (List ℕ)} {limit reads size : ℕ} {first text : List ℕ}
+    → Reads old now limit reads size first text → (failed : Type 0) → (reads ≡ 0) ⊎ failed
     → (bytes : List ℕ) × HasLeft old bytes × (failed ⊎ (limit ≤ length bytes))
 reads_stopped {old} {now} {limit} {reads} r failed why =
     let (rest, held) = all_bytes old now r.bytes r.consumed in

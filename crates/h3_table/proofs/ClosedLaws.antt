@@ -14,12 +14,14 @@ to_at r = get_or (4 ∷ 14 ∷ 24 ∷ 38 ∷ 49 ∷ 58 ∷ []) r 0
 slot_rest : (b n : ℕ) → n < 6 → (b * 6 + n) % 6 ≡ n
 slot_rest b n h = omega (arith, h)
 
-closed_one : (links : List Link) → length links ≡ 732 → ((k : ℕ) → k < 732 → pair_of (get_or links k no_link) ≡ (to_at (k % 6), 0))
+closed_one : (links : List Link) → length links ≡ 732
+    → ((k : ℕ) → k < 732 → pair_of (get_or links k no_link) ≡ (to_at (k % 6), 0))
     → (b n : ℕ) → b < 122 → n < 6 → pair_of (get_or links (b * 6 + n) no_link) ≡ (to_at n, 0)
 closed_one links long at b n h small =
     at (b * 6 + n) (omega (arith, h, small)) ∙ ap (λ r. (to_at r, 0)) (slot_rest b n small)
 
-pub closed_at : (links : List Link) → length links ≡ 732 → ((k : ℕ) → k < 732 → pair_of (get_or links k no_link) ≡ (to_at (k % 6), 0))
+pub closed_at : (links : List Link) → length links ≡ 732
+    → ((k : ℕ) → k < 732 → pair_of (get_or links k no_link) ≡ (to_at (k % 6), 0))
     → (b : ℕ) (d : Direction) → b < 122 → links_in links b d ≡ closed_link d
 unfolding links_in
 closed_at links long at b K h = closed_one links long at b 0 h (omega arith)
@@ -38,7 +40,8 @@ to_at-small (suc (suc (suc (suc zero)))) = omega arith
 to_at-small (suc (suc (suc (suc (suc zero))))) = omega arith
 to_at-small (suc (suc (suc (suc (suc (suc n)))))) = omega arith
 
-pub all_links : (links : List Link) → length links ≡ 732 → ((k : ℕ) → k < 732 → pair_of (get_or links k no_link) ≡ (to_at (k % 6), 0))
+pub all_links : (links : List Link) → length links ≡ 732
+    → ((k : ℕ) → k < 732 → pair_of (get_or links k no_link) ≡ (to_at (k % 6), 0))
     → AreLinks links
 all_links links long at = All-from_get_or (λ l. IsLink (pair_of l)) links no_link
     (λ i h. (
@@ -63,7 +66,9 @@ is_link IJ = (omega arith, omega arith)
 
 -- the direction that leads to a base cell
 toward : ℕ → Direction
-toward n = if n == 4 then K else (if n == 14 then J else (if n == 24 then JK else (if n == 38 then I else (if n == 49 then IK else IJ))))
+toward n =
+    if n == 4 then K
+    else (if n == 14 then J else (if n == 24 then JK else (if n == 38 then I else (if n == 49 then IK else IJ))))
 
 toward-closed : (d : Direction) → toward (closed_link d).0 ≡ d
 unfolding toward
@@ -78,10 +83,13 @@ no_hexagon : (b : ℕ) (d : Direction) → b ≡ (closed_link d).0 → is_pentag
 no_hexagon b d is hexagon =
     let both : true ≡ false = sym (leads_to_pentagon d) ∙ ap is_pentagon_base (sym is) ∙ hexagon in search (rules, both)
 
-pub closed_links_are_sound : (link : Links) → ((b : ℕ) (d : Direction) → b < 122 → link b d ≡ closed_link d) → IsSound link
+pub closed_links_are_sound : (link : Links) → ((b : ℕ) (d : Direction) → b < 122 → link b d ≡ closed_link d)
+    → IsSound link
 closed_links_are_sound link is = record {
   within = λ b d h. rw (is b d h.0) (is_link d);
-  apart = λ b d e h same. sym (toward-closed d) ∙ ap toward (sym (ap (λ l. l.0) (is b d h.0)) ∙ same ∙ ap (λ l. l.0) (is b e h.0)) ∙ toward-closed e;
+  apart = λ b d e h same.
+      sym (toward-closed d) ∙ ap toward (sym (ap (λ l. l.0) (is b d h.0)) ∙ same ∙ ap (λ l. l.0) (is b e h.0))
+      ∙ toward-closed e;
   away = λ b d h same. no_hexagon b d (sym same ∙ ap (λ l. l.0) (is b d h.0)) h.1;
   reversal = λ b d h g. absurd (no_hexagon (link b d).0 d (ap (λ l. l.0) (is b d h.0)) g.1);
   corner = λ b d h g k. absurd (no_hexagon (link b d).0 d (ap (λ l. l.0) (is b d h.0)) g.1);

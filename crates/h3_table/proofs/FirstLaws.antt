@@ -12,7 +12,9 @@ use Rattle.h3_table.specs.Checks.{from_base, in_directions}
 
 -- the first fault from b on: that at b, or the first from the next on
 pub from-next : (f : ℕ → Direction → Option TableError) (b : ℕ) → b < 122
-    → from_base f b (122 - b) ≡ option_or (if is_hexagon_base b then in_directions (f b) directions else None) (from_base f (b + 1) (122 - (b + 1)))
+    → from_base f b (122 - b)
+    ≡ option_or (if is_hexagon_base b then in_directions (f b) directions else None)
+    (from_base f (b + 1) (122 - (b + 1)))
 unfolding from_base
 from-next f b h =
     let e : 122 - b ≡ suc (122 - (b + 1)) = omega arith in rw e refl
@@ -30,28 +32,36 @@ none-next None n e = refl
 none-next (Some x) n e = cc e
 
 -- the first fault in the directions from a place on: that there, or the first from the next on
-pub directions-some : (f : Direction → Option TableError) (ds : List Direction) (i : ℕ) (d : Direction) (o : Option TableError) → i < length ds
+pub directions-some : (f : Direction → Option TableError) (ds : List Direction) (i : ℕ) (d : Direction)
+    (o : Option TableError)
+    → i < length ds
     → o ≡ f (get_or ds i d) → is_some o ≡ true → in_directions f (drop i ds) ≡ o
 unfolding in_directions
 directions-some f ds i d o h e s = rw (drop-cons ds i d h, ← e) (some-next o _ s)
 
-pub directions-none : (f : Direction → Option TableError) (ds : List Direction) (i : ℕ) (d : Direction) (o : Option TableError) → i < length ds
+pub directions-none : (f : Direction → Option TableError) (ds : List Direction) (i : ℕ) (d : Direction)
+    (o : Option TableError)
+    → i < length ds
     → o ≡ f (get_or ds i d) → is_some o ≡ false → in_directions f (drop i ds) ≡ in_directions f (drop (i + 1) ds)
 unfolding in_directions
 directions-none f ds i d o h e s = rw (drop-cons ds i d h, add-one, ← e) (none-next o _ s)
 
 -- the test in each direction from a place on
-pub each-next : (p : Direction → Bool) (ds : List Direction) (i : ℕ) (d : Direction) (o : Bool) → i < length ds → o ≡ p (get_or ds i d)
+pub each-next : (p : Direction → Bool) (ds : List Direction) (i : ℕ) (d : Direction) (o : Bool) → i < length ds
+    → o ≡ p (get_or ds i d)
     → list_all p (drop i ds) ≡ o && list_all p (drop (i + 1) ds)
 each-next p ds i d o h e = rw (drop-cons ds i d h, add-one, ← e) refl
 
 -- what comes of one base cell and the next
-pub base-some : (f : ℕ → Direction → Option TableError) (b : ℕ) (o : Option TableError) → b < 122 → is_hexagon_base b ≡ true
+pub base-some : (f : ℕ → Direction → Option TableError) (b : ℕ) (o : Option TableError) → b < 122
+    → is_hexagon_base b ≡ true
     → o ≡ in_directions (f b) directions → is_some o ≡ true → from_base f b (122 - b) ≡ o
 base-some f b o h e k s = rw (from-next f b h, e, ← k) (some-next o _ s)
 
-pub base-none : (f : ℕ → Direction → Option TableError) (b : ℕ) (o : Option TableError) → b < 122 → is_hexagon_base b ≡ true
-    → o ≡ in_directions (f b) directions → is_some o ≡ false → from_base f b (122 - b) ≡ from_base f (b + 1) (122 - (b + 1))
+pub base-none : (f : ℕ → Direction → Option TableError) (b : ℕ) (o : Option TableError) → b < 122
+    → is_hexagon_base b ≡ true
+    → o ≡ in_directions (f b) directions → is_some o ≡ false
+    → from_base f b (122 - b) ≡ from_base f (b + 1) (122 - (b + 1))
 base-none f b o h e k s = rw (from-next f b h, e, ← k) (none-next o _ s)
 
 pub base-pentagon : (f : ℕ → Direction → Option TableError) (b : ℕ) → b < 122 → is_hexagon_base b ≡ false

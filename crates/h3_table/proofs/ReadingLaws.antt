@@ -15,7 +15,8 @@ use Rattle.h3_table.proofs.RecordLaws.{all-front, none-after}
 
 -- a front of the file was read: the header of this format and these records, none faulty, and the slots hold their
 -- links
-pub record IsRead (text : List ℕ) (format : Format) (number : ℕ) (slots : List (Option (ℕ × ℕ))) (s : State) (y : List ℕ) : Type 0 where
+pub record IsRead (text : List ℕ) (format : Format) (number : ℕ) (slots : List (Option (ℕ × ℕ))) (s : State)
+    (y : List ℕ) : Type 0 where
   pub front : Record
   pub header_is : header_format front ≡ Some format
   pub body : List Record
@@ -28,11 +29,13 @@ pub format-under : (front : Record) (format : Format) → header_format front �
 format-under front format e = rw e refl
 
 -- a record that isn't faulty is passed over
-pub fault-passed : (before rest : List Record) (r : Record) → fault_of before r ≡ None → first_fault before (r ∷ rest) ≡ first_fault (before ++ (r ∷ [])) rest
+pub fault-passed : (before rest : List Record) (r : Record) → fault_of before r ≡ None
+    → first_fault before (r ∷ rest) ≡ first_fault (before ++ (r ∷ [])) rest
 unfolding first_fault
 fault-passed before rest r e = rw e refl
 
-pub fault-first : (before rest : List Record) (r : Record) (e : TableError) → fault_of before r ≡ Some e → first_fault before (r ∷ rest) ≡ Some e
+pub fault-first : (before rest : List Record) (r : Record) (e : TableError) → fault_of before r ≡ Some e
+    → first_fault before (r ∷ rest) ≡ Some e
 unfolding first_fault
 fault-first before rest r e h = rw h refl
 
@@ -41,19 +44,23 @@ unfolding first_fault
 first-none before = refl
 
 -- the first record isn't the header
-pub header-faulty : (text : List ℕ) (front : Record) (s : State) (y : List ℕ) → Reached default_config st.StartRecord (strip_bom text) (front ∷ []) s y
+pub header-faulty : (text : List ℕ) (front : Record) (s : State) (y : List ℕ)
+    → Reached default_config st.StartRecord (strip_bom text) (front ∷ []) s y
     → header_format front ≡ None → fault_of_records (records_of text) ≡ Some (fault.Form 1)
 header-faulty text front s y h e =
     let all = all-front text (front ∷ []) s y h in
     rw all (fault-first [] _ front (fault.Form 1) (rw e refl))
 
-pub no-header : (text : List ℕ) → next_record default_config st.StartRecord [] [] (strip_bom text) ≡ None → fault_of_records (records_of text) ≡ Some (fault.Form 1)
+pub no-header : (text : List ℕ) → next_record default_config st.StartRecord [] [] (strip_bom text) ≡ None
+    → fault_of_records (records_of text) ≡ Some (fault.Form 1)
 no-header text e =
     let all = none-after default_config (length (strip_bom text) + 1) st.StartRecord (strip_bom text) e in
     rw all refl
 
-pub read-start : (text : List ℕ) (format : Format) (front : Record) (slots : List (Option (ℕ × ℕ))) (s : State) (y : List ℕ)
-    → Reached default_config st.StartRecord (strip_bom text) (front ∷ []) s y → header_format front ≡ Some format → Holds format slots [] → IsRead text format 1 slots s y
+pub read-start : (text : List ℕ) (format : Format) (front : Record) (slots : List (Option (ℕ × ℕ))) (s : State)
+    (y : List ℕ)
+    → Reached default_config st.StartRecord (strip_bom text) (front ∷ []) s y → header_format front ≡ Some format
+    → Holds format slots [] → IsRead text format 1 slots s y
 read-start text format front slots s y h e k = record {
   front = front;
   header_is = e;
@@ -65,32 +72,42 @@ read-start text format front slots s y h e k = record {
 }
 
 -- the fault of the next record is that of the file
-pub read-faulty : (text : List ℕ) (format : Format) (number : ℕ) (slots : List (Option (ℕ × ℕ))) (s s2 : State) (y z : List ℕ) (w : IsRead text format number slots s y) (r : Record) (e : TableError)
+pub read-faulty : (text : List ℕ) (format : Format) (number : ℕ) (slots : List (Option (ℕ × ℕ))) (s s2 : State)
+    (y z : List ℕ) (w : IsRead text format number slots s y) (r : Record) (e : TableError)
     → Reached default_config st.StartRecord (strip_bom text) ((w.front ∷ w.body) ++ (r ∷ [])) s2 z
     → fault_of (w.front ∷ w.body) r ≡ Some e → fault_of_records (records_of text) ≡ Some e
 read-faulty text format number slots s s2 y z w r e h f =
     let all = all-front text ((w.front ∷ w.body) ++ (r ∷ [])) s2 z h in
-    let tail = records_from default_config (length (strip_bom text) + 1 - length ((w.front ∷ w.body) ++ (r ∷ []))) s2 z in
+    let tail =
+    records_from default_config (length (strip_bom text) + 1 - length ((w.front ∷ w.body) ++ (r ∷ []))) s2 z in
     rw (all, append_assoc w.body (r ∷ []) tail) (w.good (r ∷ tail) ∙ fault-first (w.front ∷ w.body) tail r e f)
 
-pub read-more : (text : List ℕ) (format : Format) (number : ℕ) (slots slots2 : List (Option (ℕ × ℕ))) (s s2 : State) (y z : List ℕ) (w : IsRead text format number slots s y) (r : Record)
+pub read-more : (text : List ℕ) (format : Format) (number : ℕ) (slots slots2 : List (Option (ℕ × ℕ))) (s s2 : State)
+    (y z : List ℕ) (w : IsRead text format number slots s y) (r : Record)
     → Reached default_config st.StartRecord (strip_bom text) ((w.front ∷ w.body) ++ (r ∷ [])) s2 z
-    → fault_of (w.front ∷ w.body) r ≡ None → Holds format slots2 (w.body ++ (r ∷ [])) → IsRead text format (number + 1) slots2 s2 z
+    → fault_of (w.front ∷ w.body) r ≡ None → Holds format slots2 (w.body ++ (r ∷ []))
+    → IsRead text format (number + 1) slots2 s2 z
 read-more text format number slots slots2 s s2 y z w r h f k = record {
   front = w.front;
   header_is = w.header_is;
   body = w.body ++ (r ∷ []);
   reached = h;
-  counted = let e : length (w.body ++ (r ∷ [])) ≡ length w.body + 1 = length-append w.body (r ∷ []) in let k : length w.body + 1 ≡ number = w.counted in omega arith;
+  counted =
+      let e : length (w.body ++ (r ∷ [])) ≡ length w.body + 1 = length-append w.body (r ∷ []) in
+      let k : length w.body + 1 ≡ number = w.counted in omega arith;
   holds = k;
   good = λ rest. rw (append_assoc w.body (r ∷ []) rest) (w.good (r ∷ rest) ∙ fault-passed (w.front ∷ w.body) rest r f);
 }
 
-pub read-end : (text : List ℕ) (format : Format) (number : ℕ) (slots : List (Option (ℕ × ℕ))) (s : State) (y : List ℕ) → IsRead text format number slots s y
-    → next_record default_config s [] [] y ≡ None → (fault_of_records (records_of text) ≡ None) × Holds (format_of (records_of text)) slots (body_of (records_of text))
+pub read-end : (text : List ℕ) (format : Format) (number : ℕ) (slots : List (Option (ℕ × ℕ))) (s : State) (y : List ℕ)
+    → IsRead text format number slots s y
+    → next_record default_config s [] [] y ≡ None
+    → (fault_of_records (records_of text) ≡ None)
+    × Holds (format_of (records_of text)) slots (body_of (records_of text))
 read-end text format number slots s y w e =
     let all = all-front text (w.front ∷ w.body) s y w.reached in
     let none = none-after default_config (length (strip_bom text) + 1 - length (w.front ∷ w.body)) s y e in
-    let same : records_of text ≡ (w.front ∷ w.body) ++ [] = all ∙ ap (λ (t : List Record). (w.front ∷ w.body) ++ t) none in
+    let same : records_of text ≡ (w.front ∷ w.body) ++ [] =
+    all ∙ ap (λ (t : List Record). (w.front ∷ w.body) ++ t) none in
     let under : format_after w.front ≡ format = format-under w.front format w.header_is in
     (rw same (w.good [] ∙ first-none (w.front ∷ w.body)), rw (same, append-nil w.body, under) w.holds)

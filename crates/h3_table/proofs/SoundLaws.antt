@@ -66,7 +66,8 @@ pub no_fault : (b : Bool) (e : TableError) → error_unless b e ≡ None → b �
 no_fault true e h = refl
 no_fault false e h = cc h
 
-in_directions-at : (f : Direction → Option TableError) (ds : List Direction) (i : ℕ) → in_directions f ds ≡ None → i < length ds → f (get_or ds i K) ≡ None
+in_directions-at : (f : Direction → Option TableError) (ds : List Direction) (i : ℕ) → in_directions f ds ≡ None
+    → i < length ds → f (get_or ds i K) ≡ None
 unfolding in_directions
 in_directions-at f [] i e h = absurd (omega arith)
 in_directions-at f (d ∷ ds) zero e h = (both (f d) (in_directions f ds) e).0
@@ -81,7 +82,8 @@ here : (h : Bool) (o : Option TableError) → (if h then o else None) ≡ None �
 here true o e k = e
 here false o e k = cc k
 
-at_each : (f : ℕ → Direction → Option TableError) (n b k : ℕ) (d : Direction) → from_base f b n ≡ None → b ≤ k → k < b + n → is_hexagon_base k ≡ true → f k d ≡ None
+at_each : (f : ℕ → Direction → Option TableError) (n b k : ℕ) (d : Direction) → from_base f b n ≡ None → b ≤ k
+    → k < b + n → is_hexagon_base k ≡ true → f k d ≡ None
 unfolding from_base
 at_each f zero b k d e h l x = absurd (omega arith)
 at_each f (suc n) b k d e h l x =
@@ -104,13 +106,16 @@ true-nat_lt m n h = grind (arith, nat_tests)
 -- the test of hexagon base cells says what it should
 pub hexagon_of : (b : ℕ) → is_hexagon_base b ≡ true → IsHexagonBase b
 unfolding is_hexagon_base
-hexagon_of b e = let two = and_both (nat_lt b 122) (not (is_pentagon_base b)) e in (true-nat_lt b 122 two.0, not-true (is_pentagon_base b) two.1)
+hexagon_of b e =
+    let two = and_both (nat_lt b 122) (not (is_pentagon_base b)) e in
+    (true-nat_lt b 122 two.0, not-true (is_pentagon_base b) two.1)
 
 pub is_hexagon_of : (b : ℕ) → IsHexagonBase b → is_hexagon_base b ≡ true
 unfolding is_hexagon_base
 is_hexagon_of b h = let small : nat_lt b 122 ≡ true = nat_lt-true b 122 h.0 in rw (small, h.1) refl
 
-pub no_fault_at : (f : ℕ → Direction → Option TableError) (b : ℕ) (d : Direction) → at_links f ≡ None → is_hexagon_base b ≡ true → f b d ≡ None
+pub no_fault_at : (f : ℕ → Direction → Option TableError) (b : ℕ) (d : Direction) → at_links f ≡ None
+    → is_hexagon_base b ≡ true → f b d ≡ None
 no_fault_at f b d e h = let k = hexagon_of b h in at_each f 122 0 b d e (omega arith) (omega arith) h
 
 or_true : (a b : Bool) → not a || b ≡ true → a ≡ true → b ≡ true
@@ -118,7 +123,8 @@ or_true true b e h = e
 or_true false b e h = cc h
 
 pub nth_direction : ℕ → Direction
-nth_direction n = if n == 1 then K else if n == 2 then J else if n == 3 then JK else if n == 4 then I else if n == 5 then IK else IJ
+nth_direction n =
+    if n == 1 then K else if n == 2 then J else if n == 3 then JK else if n == 4 then I else if n == 5 then IK else IJ
 
 named : (d : Direction) → nth_direction (digit_of d) ≡ d
 unfolding nth_direction
@@ -151,9 +157,11 @@ pub eqb-eq : (m n : ℕ) → (m == n) ≡ true → m ≡ n
 eqb-eq m n e = grind (arith, nat_tests)
 
 links_same : (p q : ℕ × ℕ) → same_link p q ≡ true → p ≡ q
-links_same p q e = let two = and_both (p.0 == q.0) (p.1 == q.1) e in pair_same p q (eqb-eq p.0 q.0 two.0) (eqb-eq p.1 q.1 two.1)
+links_same p q e =
+    let two = and_both (p.0 == q.0) (p.1 == q.1) e in pair_same p q (eqb-eq p.0 q.0 two.0) (eqb-eq p.1 q.1 two.1)
 
-list_all-at : (p : Direction → Bool) (ds : List Direction) (i : ℕ) → list_all p ds ≡ true → i < length ds → p (get_or ds i K) ≡ true
+list_all-at : (p : Direction → Bool) (ds : List Direction) (i : ℕ) → list_all p ds ≡ true → i < length ds
+    → p (get_or ds i K) ≡ true
 list_all-at p [] i e h = absurd (omega arith)
 list_all-at p (d ∷ ds) zero e h = (and_both (p d) (list_all p ds) e).0
 list_all-at p (d ∷ ds) (suc i) e h = list_all-at p ds i (and_both (p d) (list_all p ds) e).1 (omega arith)
@@ -173,16 +181,19 @@ not_self m n e h = grind (arith, nat_tests)
 same_not : (m n : ℕ) → m ≡ n → not (m == n) ≡ false
 same_not m n h = grind (arith, nat_tests)
 
-one_direction : (link : Links) (b : ℕ) (d e : Direction) → are_apart link b d e ≡ true → (link b d).0 ≡ (link b e).0 → d ≡ e
+one_direction : (link : Links) (b : ℕ) (d e : Direction) → are_apart link b d e ≡ true → (link b d).0 ≡ (link b e).0
+    → d ≡ e
 one_direction link b d e t h =
-    same_numbers d e (sym (eqb-eq (digit_of e) (digit_of d) (or_left (digit_of e == digit_of d) (not ((link b e).0 == (link b d).0)) t (same_not (link b e).0 (link b d).0 (sym h)))))
+    same_numbers d e (sym (eqb-eq (digit_of e) (digit_of d) (or_left (digit_of e == digit_of d)
+    (not ((link b e).0 == (link b d).0)) t (same_not (link b e).0 (link b d).0 (sym h)))))
 
 or_assoc : (a b c : Bool) → a || (b || c) ≡ (a || b) || c
 or_assoc true b c = refl
 or_assoc false b c = refl
 
 -- a list of links, base cell by base cell, has links
-pub links_within : (links : List Link) → length links ≡ 732 → AreLinks links → (b : ℕ) (d : Direction) → IsHexagonBase b → IsLink (links_in links b d)
+pub links_within : (links : List Link) → length links ≡ 732 → AreLinks links → (b : ℕ) (d : Direction) → IsHexagonBase b
+    → IsLink (links_in links b d)
 unfolding links_in
 links_within links long all b d h =
     let small : digit_of d < 7 = digit_of-lt d in
@@ -205,16 +216,27 @@ reversed-is link b d t k = links_same _ _ (or_true (is_hexagon_base (link b d).0
 pub closed-is : (link : Links) (b : ℕ) (d : Direction) → closes link b d ≡ true → IsClosed link b d
 closed-is link b d t k l =
     links_same _ _ (or_true (is_hexagon_base (link b (turned_once d)).0) _
-    (or_true (is_hexagon_base (link b d).0) _ (or_assoc (not (is_hexagon_base (link b d).0)) _ _ ∙ t) (is_hexagon_of (link b d).0 k)) (is_hexagon_of (link b (turned_once d)).0 l))
+    (or_true (is_hexagon_base (link b d).0) _ (or_assoc (not (is_hexagon_base (link b d).0)) _ _ ∙ t)
+    (is_hexagon_of (link b d).0 k))
+    (is_hexagon_of (link b (turned_once d)).0 l))
 
 -- what the three tests say at every place
-pub sound_of : (link : Links) → ((b : ℕ) (d : Direction) → IsHexagonBase b → IsLink (link b d)) → fault_of_links link ≡ None → IsSound link
+pub sound_of : (link : Links) → ((b : ℕ) (d : Direction) → IsHexagonBase b → IsLink (link b d))
+    → fault_of_links link ≡ None → IsSound link
 sound_of link within none =
-    let one = both (at_links (fault_at check.Neighbors link)) (option_or (at_links (fault_at check.Reversal link)) (at_links (fault_at check.Corner link))) none in
+    let one =
+    both (at_links (fault_at check.Neighbors link))
+    (option_or (at_links (fault_at check.Reversal link)) (at_links (fault_at check.Corner link))) none in
     let two = both (at_links (fault_at check.Reversal link)) (at_links (fault_at check.Corner link)) one.1 in
-    let neighbors : (b : ℕ) (d : Direction) → IsHexagonBase b → leads_apart link b d ≡ true = λ b d h. no_fault (leads_apart link b d) (fault.Neighbours b) (no_fault_at (fault_at check.Neighbors link) b d one.0 (is_hexagon_of b h)) in
-    let reversal : (b : ℕ) (d : Direction) → IsHexagonBase b → reverses link b d ≡ true = λ b d h. no_fault (reverses link b d) (fault.Reversal b d) (no_fault_at (fault_at check.Reversal link) b d two.0 (is_hexagon_of b h)) in
-    let corner : (b : ℕ) (d : Direction) → IsHexagonBase b → closes link b d ≡ true = λ b d h. no_fault (closes link b d) (fault.Corner b d) (no_fault_at (fault_at check.Corner link) b d two.1 (is_hexagon_of b h)) in
+    let neighbors : (b : ℕ) (d : Direction) → IsHexagonBase b → leads_apart link b d ≡ true = λ b d h.
+    no_fault (leads_apart link b d) (fault.Neighbours b)
+    (no_fault_at (fault_at check.Neighbors link) b d one.0 (is_hexagon_of b h)) in
+    let reversal : (b : ℕ) (d : Direction) → IsHexagonBase b → reverses link b d ≡ true = λ b d h.
+    no_fault (reverses link b d) (fault.Reversal b d)
+    (no_fault_at (fault_at check.Reversal link) b d two.0 (is_hexagon_of b h)) in
+    let corner : (b : ℕ) (d : Direction) → IsHexagonBase b → closes link b d ≡ true = λ b d h.
+    no_fault (closes link b d) (fault.Corner b d)
+    (no_fault_at (fault_at check.Corner link) b d two.1 (is_hexagon_of b h)) in
     record {
       within = within;
       apart = λ b d e h same. (apart-is link b d (neighbors b d h)).apart e same;
@@ -229,7 +251,8 @@ list_all-true : (p : Direction → Bool) (ds : List Direction) → ((d : Directi
 list_all-true p [] h = refl
 list_all-true p (d ∷ ds) h = let first = h d in let rest = list_all-true p ds h in rw (first, rest) refl
 
-pub in_directions-none : (f : Direction → Option TableError) (ds : List Direction) → ((d : Direction) → f d ≡ None) → in_directions f ds ≡ None
+pub in_directions-none : (f : Direction → Option TableError) (ds : List Direction) → ((d : Direction) → f d ≡ None)
+    → in_directions f ds ≡ None
 unfolding in_directions
 in_directions-none f [] h = refl
 in_directions-none f (d ∷ ds) h = let first = h d in let rest = in_directions-none f ds h in rw (first, rest) refl
@@ -241,12 +264,14 @@ if_none false o h = refl
 pub nones : (a b : Option TableError) → a ≡ None → b ≡ None → option_or a b ≡ None
 nones a b h k = rw (h, k) refl
 
-pub from_base-none : (f : ℕ → Direction → Option TableError) (b n : ℕ) → ((b : ℕ) (d : Direction) → IsHexagonBase b → f b d ≡ None) → from_base f b n ≡ None
+pub from_base-none : (f : ℕ → Direction → Option TableError) (b n : ℕ)
+    → ((b : ℕ) (d : Direction) → IsHexagonBase b → f b d ≡ None) → from_base f b n ≡ None
 unfolding from_base
 from_base-none f b zero h = refl
 from_base-none f b (suc n) h =
     nones (if is_hexagon_base b then in_directions (f b) directions else None) (from_base f (b + 1) n)
-    (if_none (is_hexagon_base b) (in_directions (f b) directions) (λ k. in_directions-none (f b) directions (λ d. h b d (hexagon_of b k))))
+    (if_none (is_hexagon_base b) (in_directions (f b) directions)
+    (λ k. in_directions-none (f b) directions (λ d. h b d (hexagon_of b k))))
     (from_base-none f (b + 1) n h)
 
 pub error_unless-none : (b : Bool) (e : TableError) → b ≡ true → error_unless b e ≡ None
@@ -284,11 +309,13 @@ same_or_or false k p q e = refl
 pub apart-of : (link : Links) (b : ℕ) (d : Direction) → LeadsApart link b d → leads_apart link b d ≡ true
 apart-of link b d s =
     let away : not ((link b d).0 == b) ≡ true = not_eqb (link b d).0 b s.away in
-    let each : list_all (are_apart link b d) directions ≡ true = list_all-true (are_apart link b d) directions are_apart_of in
+    let each : list_all (are_apart link b d) directions ≡ true =
+    list_all-true (are_apart link b d) directions are_apart_of in
     rw (away, each) refl
   where
     are_apart_of : (e : Direction) → are_apart link b d e ≡ true
-    are_apart_of e = parts_true (digit_of e) (digit_of d) (link b e).0 (link b d).0 (λ k. ap digit_of (sym (s.apart e (sym k))))
+    are_apart_of e =
+        parts_true (digit_of e) (digit_of d) (link b e).0 (link b d).0 (λ k. ap digit_of (sym (s.apart e (sym k))))
 
 pub reversed-of : (link : Links) (b : ℕ) (d : Direction) → IsReversed link b d → reverses link b d ≡ true
 reversed-of link b d s = same_or (is_hexagon_base (link b d).0) _ _ (λ k. s (hexagon_of (link b d).0 k))
@@ -300,10 +327,16 @@ closed-of link b d s =
 
 sound_none : (link : Links) → IsSound link → fault_of_links link ≡ None
 sound_none link s =
-    let apart : (b : ℕ) (d : Direction) → IsHexagonBase b → LeadsApart link b d = λ b d h. record { away = s.away b d h; apart = λ e k. s.apart b d e h k } in
-    let neighbors = from_base-none (fault_at check.Neighbors link) 0 122 (λ b d h. error_unless-none (leads_apart link b d) (fault.Neighbours b) (apart-of link b d (apart b d h))) in
-    let reversal = from_base-none (fault_at check.Reversal link) 0 122 (λ b d h. error_unless-none (reverses link b d) (fault.Reversal b d) (reversed-of link b d (λ k. s.reversal b d h k))) in
-    let corner = from_base-none (fault_at check.Corner link) 0 122 (λ b d h. error_unless-none (closes link b d) (fault.Corner b d) (closed-of link b d (λ k l. s.corner b d h k l))) in
+    let apart : (b : ℕ) (d : Direction) → IsHexagonBase b → LeadsApart link b d =
+    λ b d h. record { away = s.away b d h; apart = λ e k. s.apart b d e h k } in
+    let neighbors =
+    from_base-none (fault_at check.Neighbors link) 0 122 (λ b d h.
+    error_unless-none (leads_apart link b d) (fault.Neighbours b) (apart-of link b d (apart b d h))) in
+    let reversal = from_base-none (fault_at check.Reversal link) 0 122 (λ b d h.
+    error_unless-none (reverses link b d) (fault.Reversal b d) (reversed-of link b d (λ k. s.reversal b d h k))) in
+    let corner =
+    from_base-none (fault_at check.Corner link) 0 122 (λ b d h.
+    error_unless-none (closes link b d) (fault.Corner b d) (closed-of link b d (λ k l. s.corner b d h k l))) in
     nones _ _ neighbors (nones _ _ reversal corner)
 
 pub checks_mean_sound : ChecksMeanSound

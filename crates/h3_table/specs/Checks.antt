@@ -47,7 +47,8 @@ in_directions f (d ∷ rest) = option_or (f d) (in_directions f rest)
 -- the first fault at a hexagon base cell, of n base cells from b on
 unfoldable pub from_base : (ℕ → Direction → Option TableError) → ℕ → ℕ → Option TableError
 from_base f b zero = None
-from_base f b (suc n) = option_or (if is_hexagon_base b then in_directions (f b) directions else None) (from_base f (b + 1) n)
+from_base f b (suc n) =
+    option_or (if is_hexagon_base b then in_directions (f b) directions else None) (from_base f (b + 1) n)
 
 -- the first fault of all, by ascending base cell and then direction
 abbrev pub at_links : (ℕ → Direction → Option TableError) → Option TableError
@@ -63,4 +64,5 @@ fault_at check.Corner link b d = error_unless (closes link b d) (fault.Corner b 
 -- base cell and direction
 abbrev pub fault_of_links : Links → Option TableError
 fault_of_links link =
-    option_or (at_links (fault_at check.Neighbors link)) (option_or (at_links (fault_at check.Reversal link)) (at_links (fault_at check.Corner link)))
+    option_or (at_links (fault_at check.Neighbors link))
+    (option_or (at_links (fault_at check.Reversal link)) (at_links (fault_at check.Corner link)))

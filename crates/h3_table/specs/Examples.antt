@@ -15,7 +15,8 @@ use Rattle.h3_table.specs.Vectors.{test_link}
 
 -- ---- table files
 
-numbers : map number_in (codes "0" ∷ codes "007" ∷ codes "121" ∷ codes "" ∷ codes "0121" ∷ codes "+1" ∷ []) ≡ Some 0 ∷ Some 7 ∷ Some 121 ∷ None ∷ None ∷ None ∷ []
+numbers : map number_in (codes "0" ∷ codes "007" ∷ codes "121" ∷ codes "" ∷ codes "0121" ∷ codes "+1" ∷ [])
+    ≡ Some 0 ∷ Some 7 ∷ Some 121 ∷ None ∷ None ∷ None ∷ []
 unfolding number_from
 numbers = refl
 
@@ -28,7 +29,8 @@ faults : map (λ body. fault_of_records (header_one ∷ body))
     ∷ (fields (codes "4") (codes "1") (codes "0") (codes "0") ∷ [])
     ∷ (fields (codes "0001") (codes "1") (codes "110") (codes "0") ∷ [])
     ∷ (fields (codes "0") (codes "1") (codes "110") (codes "6") ∷ [])
-    ∷ (fields (codes "0") (codes "1") (codes "110") (codes "0") ∷ fields (codes "0") (codes "1") (codes "111") (codes "0") ∷ [])
+    ∷ (fields (codes "0") (codes "1") (codes "110") (codes "0")
+    ∷ fields (codes "0") (codes "1") (codes "111") (codes "0") ∷ [])
     ∷ []
     )
     ≡ None ∷ Some (Range 2) ∷ Some (Form 2) ∷ Some (Range 2) ∷ Some (Repeated 3) ∷ []
@@ -42,12 +44,14 @@ no_header = refl
 -- number of turns in the direction IJ in their places
 abbrev base_record : List ℕ → List ℕ → List ℕ → Record
 base_record base k last =
-    base ∷ k ∷ codes "11" ∷ codes "121" ∷ codes "1" ∷ codes "111" ∷ codes "12" ∷ codes "0" ∷ codes "0" ∷ codes "0" ∷ codes "0" ∷ codes "0" ∷ last ∷ []
+    base ∷ k ∷ codes "11" ∷ codes "121" ∷ codes "1" ∷ codes "111" ∷ codes "12" ∷ codes "0" ∷ codes "0" ∷ codes "0"
+    ∷ codes "0" ∷ codes "0" ∷ last ∷ []
 
 abbrev plain_base : Record
 plain_base = base_record (codes "0") (codes "110") (codes "0")
 
-base_links : map (λ d. first_link format.Two 0 (digit_of d) (plain_base ∷ [])) directions ≡ map (λ d. Some (test_link Plain 0 d)) directions
+base_links : map (λ d. first_link format.Two 0 (digit_of d) (plain_base ∷ [])) directions
+    ≡ map (λ d. Some (test_link Plain 0 d)) directions
 unfolding number_from all_numbers first_link
 base_links = refl
 
@@ -57,7 +61,8 @@ twisted_base =
     codes "30" ∷ codes "18" ∷ codes "41" ∷ codes "29" ∷ codes "31" ∷ codes "19" ∷ codes "42"
     ∷ codes "0" ∷ codes "5" ∷ codes "5" ∷ codes "1" ∷ codes "1" ∷ codes "0" ∷ []
 
-turned_links : map (λ d. first_link format.Two 30 (digit_of d) (twisted_base ∷ [])) directions ≡ map (λ d. Some (test_link Twisted 30 d)) directions
+turned_links : map (λ d. first_link format.Two 30 (digit_of d) (twisted_base ∷ [])) directions
+    ≡ map (λ d. Some (test_link Twisted 30 d)) directions
 unfolding number_from all_numbers first_link
 turned_links = refl
 
@@ -73,12 +78,14 @@ base_faults : map (λ body. fault_of_records (header_two ∷ body))
     ∷ (plain_base ∷ base_record (codes "0") (codes "109") (codes "0") ∷ [])
     ∷ []
     )
-    ≡ None ∷ None ∷ Some (Form 2) ∷ Some (Range 2) ∷ Some (Range 2) ∷ Some (Range 2) ∷ Some (Range 2) ∷ Some (Repeated 3) ∷ []
+    ≡ None ∷ None ∷ Some (Form 2) ∷ Some (Range 2) ∷ Some (Range 2) ∷ Some (Range 2) ∷ Some (Range 2)
+    ∷ Some (Repeated 3) ∷ []
 unfolding number_from all_numbers same_fields first_fault first_link is_hexagon_base
 base_faults = refl
 
 -- a first record that is no header
-other_headers : map fault_of_records ((plain_base ∷ []) ∷ ((codes "base" ∷ codes "k" ∷ []) ∷ []) ∷ []) ≡ Some (Form 1) ∷ Some (Form 1) ∷ []
+other_headers : map fault_of_records ((plain_base ∷ []) ∷ ((codes "base" ∷ codes "k" ∷ []) ∷ []) ∷ [])
+    ≡ Some (Form 1) ∷ Some (Form 1) ∷ []
 unfolding same_fields first_fault
 other_headers = refl
 

@@ -33,7 +33,8 @@ own_digit Two ns = 1
 
 -- the format whose header a file's first record is
 abbrev pub header_format : Record → Option Format
-header_format front = if same_fields front (header One) then Some One else (if same_fields front (header Two) then Some Two else None)
+header_format front =
+    if same_fields front (header One) then Some One else (if same_fields front (header Two) then Some Two else None)
 
 -- the format of the records after it, format 1 where it is no header
 abbrev pub format_after : Record → Format

@@ -9,8 +9,11 @@ header_one = codes "base" ∷ codes "dir" ∷ codes "to" ∷ codes "rot" ∷ []
 
 -- a hexagon base cell, a direction's digit and a link
 abbrev pub in_range_one : List ℕ → Bool
-in_range_one ns = is_hexagon_base (slice_index ns 0) && nat_lt 0 (slice_index ns 1) && nat_lt (slice_index ns 1) 7 && is_link (slice_index ns 2, slice_index ns 3)
+in_range_one ns =
+    is_hexagon_base (slice_index ns 0) && nat_lt 0 (slice_index ns 1) && nat_lt (slice_index ns 1) 7
+    && is_link (slice_index ns 2, slice_index ns 3)
 
 -- the link in a record's numbers for a base cell and the direction of a digit
 abbrev pub link_one : ℕ → ℕ → List ℕ → Option (ℕ × ℕ)
-link_one b d ns = if (slice_index ns 0 == b) && (slice_index ns 1 == d) then Some (slice_index ns 2, slice_index ns 3) else None
+link_one b d ns =
+    if (slice_index ns 0 == b) && (slice_index ns 1 == d) then Some (slice_index ns 2, slice_index ns 3) else None

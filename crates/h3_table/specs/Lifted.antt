@@ -43,8 +43,10 @@ pub record Reaches (link : Links) (b : ℕ) (ds : List ℕ) (d : Direction) (r :
 -- undoes the turns
 abbrev pub ReversalsLift : Type 0
 ReversalsLift =
-    (link : Links) → IsSound link → (b : ℕ) (ds : List ℕ) (d : Direction) (r : Reached) → IsHexagonBase b → AllBelowBase 7 ds → Reaches link b ds d r
-    → IsHexagonBase r.base → Reaches link r.base r.digits (turned r.turns (opposite d)) (reached b ((6 - r.turns) % 6) ds)
+    (link : Links) → IsSound link → (b : ℕ) (ds : List ℕ) (d : Direction) (r : Reached) → IsHexagonBase b
+    → AllBelowBase 7 ds → Reaches link b ds d r
+    → IsHexagonBase r.base
+    → Reaches link r.base r.digits (turned r.turns (opposite d)) (reached b ((6 - r.turns) % 6) ds)
 
 -- CornersLift: and the steps in a direction and in the next one are a step apart
 --
@@ -52,6 +54,7 @@ ReversalsLift =
 -- the way, leads from the first to the second, and its turns make up the difference
 abbrev pub CornersLift : Type 0
 CornersLift =
-    (link : Links) → IsSound link → (b : ℕ) (ds : List ℕ) (d : Direction) (r s : Reached) → IsHexagonBase b → Reaches link b ds d r → Reaches link b ds (turned_once d) s
+    (link : Links) → IsSound link → (b : ℕ) (ds : List ℕ) (d : Direction) (r s : Reached) → IsHexagonBase b
+    → Reaches link b ds d r → Reaches link b ds (turned_once d) s
     → IsHexagonBase r.base → IsHexagonBase s.base
     → Reaches link r.base r.digits (turned r.turns (turned 2 d)) (reached s.base ((s.turns + 6 - r.turns) % 6) s.digits)

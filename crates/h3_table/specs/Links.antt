@@ -64,6 +64,7 @@ pub record IsSound (link : Links) : Type 0 where
   pub away : (b : ℕ) (d : Direction) → IsHexagonBase b → (link b d).0 ≢ b
   pub reversal : (b : ℕ) (d : Direction) → IsHexagonBase b → IsHexagonBase (link b d).0
       → link (link b d).0 (turned (link b d).1 (opposite d)) ≡ (b, (6 - (link b d).1) % 6)
-  pub corner : (b : ℕ) (d : Direction) → IsHexagonBase b → IsHexagonBase (link b d).0 → IsHexagonBase (link b (turned_once d)).0
+  pub corner : (b : ℕ) (d : Direction) → IsHexagonBase b → IsHexagonBase (link b d).0
+      → IsHexagonBase (link b (turned_once d)).0
       → link (link b d).0 (turned (link b d).1 (turned 2 d))
       ≡ ((link b (turned_once d)).0, ((link b (turned_once d)).1 + 6 - (link b d).1) % 6)

@@ -43,7 +43,8 @@ fault_in format row known (Some ns) =
 abbrev pub fault_of : List Record → Record → Option TableError
 fault_of [] r = if is_some (header_format r) then None else Some (fault.Form 1)
 fault_of (front ∷ body) r =
-    fault_in (format_after front) (length body + 2) (λ b d. first_link (format_after front) b d body) (numbers_in (width (format_after front)) r)
+    fault_in (format_after front) (length body + 2) (λ b d. first_link (format_after front) b d body)
+    (numbers_in (width (format_after front)) r)
 
 -- the first fault of records that come after others
 unfoldable pub first_fault : List Record → List Record → Option TableError

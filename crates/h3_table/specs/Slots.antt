@@ -15,7 +15,9 @@ use Rattle.h3_table.specs.Records.{first_link}
 
 -- the bounds of numbers that are in range, in format 1
 abbrev pub IsInRangeOne : List ℕ → Type 0
-IsInRangeOne ns = (slice_index ns 0 < 122) × (0 < slice_index ns 1) × (slice_index ns 1 < 7) × (slice_index ns 2 < 122) × (slice_index ns 3 < 6)
+IsInRangeOne ns =
+    (slice_index ns 0 < 122) × (0 < slice_index ns 1) × (slice_index ns 1 < 7) × (slice_index ns 2 < 122)
+    × (slice_index ns 3 < 6)
 
 -- and in format 2
 abbrev pub IsInRangeTwo : List ℕ → Type 0
@@ -24,7 +26,9 @@ IsInRangeTwo ns = (slice_index ns 0 < 122) × ((d : ℕ) → 0 < d → d < 7 →
 -- the new slots have the links in a record's numbers, and elsewhere what the old ones have
 pub record SetsLinks (format : Format) (ns : List ℕ) (old new : List (Option (ℕ × ℕ))) : Type 0 where
   pub long : length new ≡ length old
-  pub each : (b d : ℕ) → 0 < d → d < 7 → slice_index_or new (slot_of b d) None ≡ option_or (link_in format b d ns) (slice_index_or old (slot_of b d) None)
+  pub each : (b d : ℕ) → 0 < d → d < 7
+      → slice_index_or new (slot_of b d) None
+      ≡ option_or (link_in format b d ns) (slice_index_or old (slot_of b d) None)
 
 -- the slots hold the links of these records
 pub record Holds (format : Format) (slots : List (Option (ℕ × ℕ))) (body : List Record) : Type 0 where

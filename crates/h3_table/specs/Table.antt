@@ -19,13 +19,15 @@ links_of records b d = unwrap_or (first_link (format_of records) b (digit_of d) 
 
 -- no record has the link of this base cell and direction
 abbrev pub missing_of : List Record → ℕ → Direction → Option TableError
-missing_of records b d = error_unless (is_some (first_link (format_of records) b (digit_of d) (body_of records))) fault.Missing
+missing_of records b d =
+    error_unless (is_some (first_link (format_of records) b (digit_of d) (body_of records))) fault.Missing
 
 -- table_fault records: a file's first error: of the records, a missing one, of the checks
 --
 -- why a table file is refused: its first faulty record, or else a missing one, or else the first check that fails
 abbrev pub table_fault : List Record → Option TableError
-table_fault records = option_or (fault_of_records records) (option_or (at_links (missing_of records)) (fault_of_links (links_of records)))
+table_fault records =
+    option_or (fault_of_records records) (option_or (at_links (missing_of records)) (fault_of_links (links_of records)))
 
 -- RefusesTable: which errors a file may get
 --
@@ -43,7 +45,8 @@ RefusesTable read_fails first e = first ≡ Some e
 -- of links that lead to base cells by 0 to 5 turns, none of the checks fails exactly where they are sound
 abbrev pub ChecksMeanSound : Type 0
 ChecksMeanSound =
-    (link : Links) → ((b : ℕ) (d : Direction) → IsHexagonBase b → IsLink (link b d)) → (fault_of_links link ≡ None) ↔ IsSound link
+    (link : Links) → ((b : ℕ) (d : Direction) → IsHexagonBase b → IsLink (link b d))
+    → (fault_of_links link ≡ None) ↔ IsSound link
 
 -- a record has a link for this base cell and direction
 abbrev pub has_link : Format → ℕ → ℕ → Record → Bool
@@ -69,4 +72,5 @@ pub record IsOfForm (records : List Record) : Type 0 where
 
 -- SoundFilesAreAccepted: there is no error exactly where the file is of the form and its links are sound
 abbrev pub SoundFilesAreAccepted : Type 0
-SoundFilesAreAccepted = (records : List Record) → (table_fault records ≡ None) ↔ (IsOfForm records × IsSound (links_of records))
+SoundFilesAreAccepted =
+    (records : List Record) → (table_fault records ≡ None) ↔ (IsOfForm records × IsSound (links_of records))

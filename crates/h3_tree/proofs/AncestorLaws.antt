@@ -21,7 +21,8 @@ take_whole zero (x ∷ xs) h = absurd (omega (arith, h))
 take_whole (suc q) [] h = refl
 take_whole (suc q) (x ∷ xs) h = ap (λ ys. x ∷ ys) (take_whole q xs (omega (arith, h)))
 
-same : (b : ℕ) (xs ys : List ℕ) → xs ≡ ys → ◌≡◌ {A = Address} (record { base = b; digits = xs }) (record { base = b; digits = ys })
+same : (b : ℕ) (xs ys : List ℕ) → xs ≡ ys
+    → ◌≡◌ {A = Address} (record { base = b; digits = xs }) (record { base = b; digits = ys })
 same b xs ys e = ap {B = Address} (λ zs. record { base = b; digits = zs }) e
 
 ancestor_at-ancestor_at : (c : Address) (p q : ℕ) → p ≤ q → ancestor_at (ancestor_at c q) p ≡ ancestor_at c p
@@ -36,7 +37,8 @@ no_finer a c h =
     omega (arith, shown, length-take (length a.digits) c.digits)
 
 -- a cell has no ancestor at a number that is no resolution
-pub none_beyond : (a c : Address) (res : ℤ) → IsCell c → IsAncestor a c → pos (length a.digits) ≡ res → resolution_of res ≡ None → ⊥
+pub none_beyond : (a c : Address) (res : ℤ) → IsCell c → IsAncestor a c → pos (length a.digits) ≡ res
+    → resolution_of res ≡ None → ⊥
 unfolding number_below
 none_beyond a c res valid above at_res none =
     let small : length a.digits ≤ 15 = omega (arith, no_finer a c above, valid.coarse) in
@@ -44,7 +46,8 @@ none_beyond a c res valid above at_res none =
     let some : number_below 16 (pos (length a.digits)) ≡ Some (length a.digits) = rw test refl in
     absurd (cc (sym some ∙ ap resolution_of at_res ∙ none))
 
-center_listed : (c : Address) (s : ℕ) → IsChain (is_pentagon c) (s - length c.digits) → Contains (descendants c s) (center_descendant c s)
+center_listed : (c : Address) (s : ℕ) → IsChain (is_pentagon c) (s - length c.digits)
+    → Contains (descendants c s) (center_descendant c s)
 unfolding descendants
 center_listed c s h = rw h.is (0, omega arith, refl)
 
@@ -53,15 +56,19 @@ trees cells listed ascending chains =
     record {
       own = λ c. same c.base _ _ (take-length c.digits);
       through = λ a b c p q.
-          sym (ancestor_at-ancestor_at c (length a.digits) (length b.digits) (no_finer a b p)) ∙ ap (λ x. ancestor_at x (length a.digits)) q ∙ p;
+          sym (ancestor_at-ancestor_at c (length a.digits) (length b.digits) (no_finer a b p))
+          ∙ ap (λ x. ancestor_at x (length a.digits)) q ∙ p;
       ordered = λ a b c p q le.
-          ap (λ y. ancestor_at y (length a.digits)) (sym q) ∙ ancestor_at-ancestor_at c (length a.digits) (length b.digits) le ∙ p;
+          ap (λ y. ancestor_at y (length a.digits)) (sym q)
+          ∙ ancestor_at-ancestor_at c (length a.digits) (length b.digits) le ∙ p;
       no_finer = no_finer;
       same = λ a c p le. sym (same c.base _ _ (take_whole (length a.digits) c.digits le)) ∙ p;
       cut_ancestor = λ c r le. rw (length-ancestor_at c r le) refl;
       resolution-ancestor_at = length-ancestor_at;
       cut_cell = cells;
-      center_descendant = λ c s v le fine. (listed c s v le fine (center_descendant c s)).0 (center_listed c s (chains (is_pentagon c) (s - length c.digits)));
+      center_descendant = λ c s v le fine.
+          (listed c s v le fine (center_descendant c s)).0
+          (center_listed c s (chains (is_pentagon c) (s - length c.digits)));
       listed = listed;
       ascending = ascending;
     }

@@ -19,7 +19,9 @@ read-zero to from (suc n) some =
     let none_left : 0 % from ≡ 0 = mod-eq_of_lt some in
     rw (none, none_left, read-zero to from n some) (omega arith)
 
-read-after : (to from count m : ℕ) (ds : List ℕ) → AllBelowBase from ds → read to from (count + length ds) (number_from_digits_after from m ds) ≡ number_from_digits_after to (read to from count m) ds
+read-after : (to from count m : ℕ) (ds : List ℕ) → AllBelowBase from ds
+    → read to from (count + length ds) (number_from_digits_after from m ds)
+    ≡ number_from_digits_after to (read to from count m) ds
 read-after to from count m [] small =
     let same : count + 0 ≡ count = omega arith in
     rw same refl
@@ -30,10 +32,13 @@ read-after to from count m (d ∷ ds) small =
     let low : (m * from + d) % from ≡ d = mod-mul-add m from d small.0 in
     rw (same, more, high, low) refl
 
-pub read-list : (to from n : ℕ) (ds : List ℕ) → 0 < from → AllBelowBase from ds → length ds ≤ n → read to from n (number_from_digits from ds) ≡ number_from_digits to ds
+pub read-list : (to from n : ℕ) (ds : List ℕ) → 0 < from → AllBelowBase from ds → length ds ≤ n
+    → read to from n (number_from_digits from ds) ≡ number_from_digits to ds
 read-list to from n ds some small le =
     let all : n - length ds + length ds ≡ n = omega (arith, le) in
-    let shown : read to from n (number_from_digits from ds) ≡ number_from_digits_after to (read to from (n - length ds) 0) ds = rw all at (read-after to from (n - length ds) 0 ds small) in
+    let shown : read to from n (number_from_digits from ds)
+    ≡ number_from_digits_after to (read to from (n - length ds) 0) ds =
+    rw all at (read-after to from (n - length ds) 0 ds small) in
     shown ∙ ap (λ m. number_from_digits_after to m ds) (read-zero to from (n - length ds) some)
 
 -- ---- two at a time
@@ -61,9 +66,12 @@ uppers-next k n v =
     let wide : 2 ^ k ≤ 2 ^ (k + k) = pow-le-pow_right (omega arith) (omega arith) in
     let whole : x ≡ x / 2 ^ (k + k) * 2 ^ (k + k) + x % 2 ^ (k + k) = sym (div-add-mod' x (2 ^ (k + k))) in
     let turn : 2 ^ k * 2 ^ (k + k) ≡ 2 ^ (k + k) * 2 ^ k = grind arith in
-    let above : x / 2 ^ (k + k) ≡ v / 2 ^ (k + k) / 2 ^ k = div-div-eq-div-mul v (2 ^ k) (2 ^ (k + k)) ∙ ap (λ p. v / p) turn ∙ sym (div-div-eq-div-mul v (2 ^ (k + k)) (2 ^ k)) in
+    let above : x / 2 ^ (k + k) ≡ v / 2 ^ (k + k) / 2 ^ k =
+    div-div-eq-div-mul v (2 ^ k) (2 ^ (k + k)) ∙ ap (λ p. v / p) turn
+    ∙ sym (div-div-eq-div-mul v (2 ^ (k + k)) (2 ^ k)) in
     ap (λ y. bit_and y (lower k n * 2 ^ (k + k) + (2 ^ k - 1))) whole
-    ∙ and_block (k + k) (x / 2 ^ (k + k)) (lower k n) (x % 2 ^ (k + k)) (2 ^ k - 1) (mod_below x (2 ^ (k + k)) some) (omega (arith, wide, some))
+    ∙ and_block (k + k) (x / 2 ^ (k + k)) (lower k n) (x % 2 ^ (k + k)) (2 ^ k - 1) (mod_below x (2 ^ (k + k)) some)
+    (omega (arith, wide, some))
     ∙ ap (λ y. bit_and y (lower k n) * 2 ^ (k + k) + bit_and (x % 2 ^ (k + k)) (2 ^ k - 1)) above
     ∙ ap (λ y. uppers k n (v / 2 ^ (k + k)) * 2 ^ (k + k) + y) (and_mask (x % 2 ^ (k + k)) k ∙ mod-mod-pow x k k)
 
@@ -85,9 +93,13 @@ module _ (k c to n v : ℕ) (e : to + c ≡ 2 ^ k) where
   in_two : v ≡ v / 2 ^ (k + k) * 2 ^ (k + k) + (v / 2 ^ k % 2 ^ k * 2 ^ k + v % 2 ^ k)
   in_two =
       let last = div-add-mod' v (2 ^ k) in
-      let next : v / 2 ^ k ≡ v / 2 ^ (k + k) * 2 ^ k + v / 2 ^ k % 2 ^ k = rw above_two (sym (div-add-mod' (v / 2 ^ k) (2 ^ k))) in
-      let spread : (v / 2 ^ (k + k) * 2 ^ k + v / 2 ^ k % 2 ^ k) * 2 ^ k ≡ v / 2 ^ (k + k) * (2 ^ k * 2 ^ k) + v / 2 ^ k % 2 ^ k * 2 ^ k = grind arith in
-      let both : v / 2 ^ k * 2 ^ k ≡ v / 2 ^ (k + k) * 2 ^ (k + k) + v / 2 ^ k % 2 ^ k * 2 ^ k = ap (λ x. x * 2 ^ k) next ∙ spread ∙ ap (λ p. v / 2 ^ (k + k) * p + v / 2 ^ k % 2 ^ k * 2 ^ k) (sym square) in
+      let next : v / 2 ^ k ≡ v / 2 ^ (k + k) * 2 ^ k + v / 2 ^ k % 2 ^ k =
+      rw above_two (sym (div-add-mod' (v / 2 ^ k) (2 ^ k))) in
+      let spread : (v / 2 ^ (k + k) * 2 ^ k + v / 2 ^ k % 2 ^ k) * 2 ^ k
+      ≡ v / 2 ^ (k + k) * (2 ^ k * 2 ^ k) + v / 2 ^ k % 2 ^ k * 2 ^ k =
+      grind arith in
+      let both : v / 2 ^ k * 2 ^ k ≡ v / 2 ^ (k + k) * 2 ^ (k + k) + v / 2 ^ k % 2 ^ k * 2 ^ k =
+      ap (λ x. x * 2 ^ k) next ∙ spread ∙ ap (λ p. v / 2 ^ (k + k) * p + v / 2 ^ k % 2 ^ k * 2 ^ k) (sym square) in
       omega (arith, last, both)
 
   upper_read : v / 2 ^ k % 2 ^ k * 2 ^ k ≡ v / 2 ^ k % 2 ^ k * to + c * (v / 2 ^ k % 2 ^ k)
@@ -103,20 +115,24 @@ module _ (k c to n v : ℕ) (e : to + c ≡ 2 ^ k) where
       let spread : (a + 1) * 2 ^ k ≡ a * 2 ^ k + 2 ^ k = grind arith in
       omega (arith, room, spread, square, upper_read, mod_below v (2 ^ k) some_more)
 
-  paired-next : paired k c (suc n) v ≡ paired k c n (v / 2 ^ (k + k)) * 2 ^ (k + k) + (v / 2 ^ k % 2 ^ k * to + v % 2 ^ k)
+  paired-next : paired k c (suc n) v
+      ≡ paired k c n (v / 2 ^ (k + k)) * 2 ^ (k + k) + (v / 2 ^ k % 2 ^ k * to + v % 2 ^ k)
   paired-next =
       let w = v / 2 ^ (k + k) in
       let a = v / 2 ^ k % 2 ^ k in
       let u = uppers k n w in
       let within : c * uppers k n w ≤ w = uppers-within k n c w (omega (arith, e)) in
       let kept : paired k c n w + c * uppers k n w ≡ w = omega (arith, within) in
-      let spread : (paired k c n w + c * u) * 2 ^ (k + k) ≡ paired k c n w * 2 ^ (k + k) + c * u * 2 ^ (k + k) = grind arith in
-      let all : w * 2 ^ (k + k) ≡ paired k c n w * 2 ^ (k + k) + c * u * 2 ^ (k + k) = ap (λ x. x * 2 ^ (k + k)) (sym kept) ∙ spread in
+      let spread : (paired k c n w + c * u) * 2 ^ (k + k) ≡ paired k c n w * 2 ^ (k + k) + c * u * 2 ^ (k + k) =
+      grind arith in
+      let all : w * 2 ^ (k + k) ≡ paired k c n w * 2 ^ (k + k) + c * u * 2 ^ (k + k) =
+      ap (λ x. x * 2 ^ (k + k)) (sym kept) ∙ spread in
       let less : c * (u * 2 ^ (k + k) + a) ≡ c * u * 2 ^ (k + k) + c * a = grind arith in
       let taken : c * uppers k (suc n) v ≡ c * u * 2 ^ (k + k) + c * a = ap (λ x. c * x) (uppers-next k n v) ∙ less in
       omega (arith, in_two, upper_read, all, taken)
 
-pub read-paired : (k c to n v : ℕ) → to + c ≡ 2 ^ k → read (to * to) (2 ^ (k + k)) n (paired k c n v) ≡ read to (2 ^ k) (n + n) v
+pub read-paired : (k c to n v : ℕ) → to + c ≡ 2 ^ k
+    → read (to * to) (2 ^ (k + k)) n (paired k c n v) ≡ read to (2 ^ k) (n + n) v
 read-paired k c to zero v e = refl
 read-paired k c to (suc n) v e =
     let w = v / 2 ^ (k + k) in
@@ -124,8 +140,10 @@ read-paired k c to (suc n) v e =
     let d = v % 2 ^ k in
     let next = paired-next k c to n v e in
     let small = pair_small k c to n v e in
-    let high : paired k c (suc n) v / 2 ^ (k + k) ≡ paired k c n w = ap (λ x. x / 2 ^ (k + k)) next ∙ div-mul-add (paired k c n w) (2 ^ (k + k)) (a * to + d) small in
-    let low : paired k c (suc n) v % 2 ^ (k + k) ≡ a * to + d = ap (λ x. x % 2 ^ (k + k)) next ∙ mod-mul-add (paired k c n w) (2 ^ (k + k)) (a * to + d) small in
+    let high : paired k c (suc n) v / 2 ^ (k + k) ≡ paired k c n w =
+    ap (λ x. x / 2 ^ (k + k)) next ∙ div-mul-add (paired k c n w) (2 ^ (k + k)) (a * to + d) small in
+    let low : paired k c (suc n) v % 2 ^ (k + k) ≡ a * to + d =
+    ap (λ x. x % 2 ^ (k + k)) next ∙ mod-mul-add (paired k c n w) (2 ^ (k + k)) (a * to + d) small in
     let two : suc n + suc n ≡ suc (suc (n + n)) = omega arith in
     let before = read to (2 ^ k) (n + n) w in
     let spread : before * (to * to) + (a * to + d) ≡ (before * to + a) * to + d = grind arith in
@@ -156,14 +174,22 @@ pub record IsInSteps (v : ℕ) : Type 0 where
 pub steps : (v : ℕ) → v < 2 ^ 48 → IsInSteps v
 steps v less =
     let once : 1 * uppers 3 8 v ≡ uppers 3 8 v = omega arith in
-    let last : uppers 24 1 (eights v) ≡ eights v / 2 ^ 24 = and_mask (eights v / 2 ^ 24) 24 ∙ mod-eq_of_lt (omega (arith, less)) in
-    let one : read 49 64 8 (pairs v) ≡ read 7 8 16 v = ap (λ x. read 49 64 8 (v - x)) (sym once) ∙ read-paired 3 1 7 8 v refl in
+    let last : uppers 24 1 (eights v) ≡ eights v / 2 ^ 24 =
+    and_mask (eights v / 2 ^ 24) 24 ∙ mod-eq_of_lt (omega (arith, less)) in
+    let one : read 49 64 8 (pairs v) ≡ read 7 8 16 v =
+    ap (λ x. read 49 64 8 (v - x)) (sym once) ∙ read-paired 3 1 7 8 v refl in
     let two : read 2401 4096 4 (fours v) ≡ read 49 64 8 (pairs v) = read-paired 6 15 49 4 (pairs v) refl in
-    let three : read 5764801 (2 ^ 24) 2 (eights v) ≡ read 2401 4096 4 (fours v) = read-paired 12 1695 2401 2 (fours v) refl in
-    let four : read (5764801 * 5764801) (2 ^ 48) 1 (eights v - 11012415 * (eights v / 2 ^ 24)) ≡ read 5764801 (2 ^ 24) 2 (eights v) =
-    ap (λ x. read (5764801 * 5764801) (2 ^ 48) 1 (eights v - 11012415 * x)) (sym last) ∙ read-paired 24 11012415 5764801 1 (eights v) refl in
-    let small : (eights v - 11012415 * (eights v / 2 ^ 24)) % 2 ^ 48 ≡ eights v - 11012415 * (eights v / 2 ^ 24) = mod-eq_of_lt (omega (arith, less)) in
-    let alone : (eights v - 11012415 * (eights v / 2 ^ 24)) % 2 ^ 48 ≡ read (5764801 * 5764801) (2 ^ 48) 1 (eights v - 11012415 * (eights v / 2 ^ 24)) = omega arith in
+    let three : read 5764801 (2 ^ 24) 2 (eights v) ≡ read 2401 4096 4 (fours v) =
+    read-paired 12 1695 2401 2 (fours v) refl in
+    let four : read (5764801 * 5764801) (2 ^ 48) 1 (eights v - 11012415 * (eights v / 2 ^ 24))
+    ≡ read 5764801 (2 ^ 24) 2 (eights v) =
+    ap (λ x. read (5764801 * 5764801) (2 ^ 48) 1 (eights v - 11012415 * x)) (sym last)
+    ∙ read-paired 24 11012415 5764801 1 (eights v) refl in
+    let small : (eights v - 11012415 * (eights v / 2 ^ 24)) % 2 ^ 48 ≡ eights v - 11012415 * (eights v / 2 ^ 24) =
+    mod-eq_of_lt (omega (arith, less)) in
+    let alone : (eights v - 11012415 * (eights v / 2 ^ 24)) % 2 ^ 48
+    ≡ read (5764801 * 5764801) (2 ^ 48) 1 (eights v - 11012415 * (eights v / 2 ^ 24)) =
+    omega arith in
     record {
       one = rw once at (uppers-within 3 8 1 v (lit< tt));
       two = uppers-within 6 4 15 (pairs v) (lit< tt);

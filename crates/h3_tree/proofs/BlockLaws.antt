@@ -25,7 +25,8 @@ and_three false b c = refl
 
 pub pentagon-child : (m : Address) (d : ℕ) → is_pentagon (child m d) ≡ (is_pentagon m && d == 0)
 pentagon-child m d =
-    ap (λ b. is_pentagon_base m.base && b) (leading-push m.digits d) ∙ and_three (is_pentagon_base m.base) (leading m.digits == 0) (d == 0)
+    ap (λ b. is_pentagon_base m.base && b) (leading-push m.digits d)
+    ∙ and_three (is_pentagon_base m.base) (leading m.digits == 0) (d == 0)
 
 leading-last : (ds : List ℕ) (d : ℕ) → (leading ds == 0) ≡ true → leading (ds ++ d ∷ []) ≡ d
 leading-last [] zero h = refl
@@ -44,40 +45,55 @@ not_deleted m d v p e =
     v.not_deleted b.0 (leading-last m.digits d b.1 ∙ e)
 
 -- a cell is the child of its parent
-pub child-ancestor_at : (c : Address) (d : ℕ) → 0 < length c.digits → get_or c.digits (length c.digits - 1) 7 ≡ d → child (ancestor_at c (length c.digits - 1)) d ≡ c
+pub child-ancestor_at : (c : Address) (d : ℕ) → 0 < length c.digits → get_or c.digits (length c.digits - 1) 7 ≡ d
+    → child (ancestor_at c (length c.digits - 1)) d ≡ c
 child-ancestor_at c d some e =
     let next : suc (length c.digits - 1) ≡ length c.digits = omega arith in
     address_same (child (ancestor_at c (length c.digits - 1)) d) c refl
-    (ap (λ k. take (length c.digits - 1) c.digits ++ k ∷ []) (sym e) ∙ sym (take-suc c.digits (length c.digits - 1) 7 (omega arith)) ∙ ap (λ n. take n c.digits) next ∙ take-length c.digits)
+    (ap (λ k. take (length c.digits - 1) c.digits ++ k ∷ []) (sym e)
+    ∙ sym (take-suc c.digits (length c.digits - 1) 7 (omega arith)) ∙ ap (λ n. take n c.digits) next
+    ∙ take-length c.digits)
 
 -- ---- the descendants of the children, one after another
 
 along-child : (m : Address) (d : ℕ) (es : List ℕ) → along m (d ∷ es) ≡ along (child m d) es
-along-child m d es = address_same (along m (d ∷ es)) (along (child m d) es) refl (sym (append_assoc m.digits (d ∷ []) es))
+along-child m d es =
+    address_same (along m (d ∷ es)) (along (child m d) es) refl (sym (append_assoc m.digits (d ∷ []) es))
 
-along_map : (m : Address) (d : ℕ) (xs : List (List ℕ)) → map (along m) (map (λ ds. d ∷ ds) xs) ≡ map (along (child m d)) xs
+along_map : (m : Address) (d : ℕ) (xs : List (List ℕ))
+    → map (along m) (map (λ ds. d ∷ ds) xs) ≡ map (along (child m d)) xs
 along_map m d [] = refl
 along_map m d (x ∷ xs) =
-    ap (λ y. y ∷ map (along m) (map (λ ds. d ∷ ds) xs)) (along-child m d x) ∙ ap (λ ys. along (child m d) x ∷ ys) (along_map m d xs)
+    ap (λ y. y ∷ map (along m) (map (λ ds. d ∷ ds) xs)) (along-child m d x)
+    ∙ ap (λ ys. along (child m d) x ∷ ys) (along_map m d xs)
 
-block : (m : Address) (s n d : ℕ) → s - length (m.digits ++ d ∷ []) ≡ n → map (along m) (map (λ ds. d ∷ ds) (paths (is_pentagon m && d == 0) n)) ≡ descendants (child m d) s
+block : (m : Address) (s n d : ℕ) → s - length (m.digits ++ d ∷ []) ≡ n
+    → map (along m) (map (λ ds. d ∷ ds) (paths (is_pentagon m && d == 0) n)) ≡ descendants (child m d) s
 unfolding descendants
 block m s n d e =
     along_map m d (paths (is_pentagon m && d == 0) n) ∙ rw (e, pentagon-child m d) refl
 
-blocks_of : (m : Address) (s n : ℕ) → ((d : ℕ) → s - length (m.digits ++ d ∷ []) ≡ n) → (ds : List ℕ) → map (along m) (flat_map (λ d. map (λ es. d ∷ es) (paths (is_pentagon m && d == 0) n)) ds) ≡ flat_map (λ d. descendants (child m d) s) ds
+blocks_of : (m : Address) (s n : ℕ) → ((d : ℕ) → s - length (m.digits ++ d ∷ []) ≡ n) → (ds : List ℕ)
+    → map (along m) (flat_map (λ d. map (λ es. d ∷ es) (paths (is_pentagon m && d == 0) n)) ds)
+    ≡ flat_map (λ d. descendants (child m d) s) ds
 blocks_of m s n e [] = refl
 blocks_of m s n e (d ∷ ds) =
-    map-append (along m) (map (λ es. d ∷ es) (paths (is_pentagon m && d == 0) n)) (flat_map (λ k. map (λ es. k ∷ es) (paths (is_pentagon m && k == 0) n)) ds) ∙
-    ap (λ ys. ys ++ map (along m) (flat_map (λ k. map (λ es. k ∷ es) (paths (is_pentagon m && k == 0) n)) ds)) (block m s n d (e d)) ∙
+    map-append (along m) (map (λ es. d ∷ es) (paths (is_pentagon m && d == 0) n))
+    (flat_map (λ k. map (λ es. k ∷ es) (paths (is_pentagon m && k == 0) n)) ds)
+    ∙
+    ap (λ ys. ys ++ map (along m) (flat_map (λ k. map (λ es. k ∷ es) (paths (is_pentagon m && k == 0) n)) ds))
+    (block m s n d (e d))
+    ∙
     ap (λ ys. descendants (child m d) s ++ ys) (blocks_of m s n e ds)
 
-blocks_at : (m : Address) (s n : ℕ) → s - length m.digits ≡ suc n → descendants m s ≡ flat_map (λ d. descendants (child m d) s) (steps (is_pentagon m))
+blocks_at : (m : Address) (s n : ℕ) → s - length m.digits ≡ suc n
+    → descendants m s ≡ flat_map (λ d. descendants (child m d) s) (steps (is_pentagon m))
 unfolding descendants paths
 blocks_at m s n more =
     rw more (blocks_of m s n (λ d. omega (arith, length-append m.digits (d ∷ []), more)) (steps (is_pentagon m)))
 
-pub blocks : (m : Address) (s : ℕ) → length m.digits < s → descendants m s ≡ flat_map (λ d. descendants (child m d) s) (steps (is_pentagon m))
+pub blocks : (m : Address) (s : ℕ) → length m.digits < s
+    → descendants m s ≡ flat_map (λ d. descendants (child m d) s) (steps (is_pentagon m))
 blocks m s lt = blocks_at m s (s - length m.digits - 1) (omega (arith, lt))
 
 -- ---- where each block begins
@@ -102,25 +118,38 @@ pub record IsStep (f : ℕ → List Address) (p : Bool) (d before : ℕ) : Type 
   pub is : get_or (steps p) index d ≡ d
   pub before_is : length (flat_map f (take index (steps p))) ≡ before
 
-step : (f : ℕ → List Address) (center outer : ℕ) → AreSizes f center outer → (p : Bool) (d : ℕ) → d < 7 → (p ≡ true → d ≢ 1) → IsStep f p d (offset p center outer d)
+step : (f : ℕ → List Address) (center outer : ℕ) → AreSizes f center outer → (p : Bool) (d : ℕ) → d < 7
+    → (p ≡ true → d ≢ 1) → IsStep f p d (offset p center outer d)
 step f center outer h false zero lt ok = record { index = 0; within = omega arith; is = refl; before_is = refl }
-step f center outer h false (suc zero) lt ok = record { index = 1; within = omega arith; is = refl; before_is = simp length-append (omega arith) }
-step f center outer h false (suc (suc zero)) lt ok = record { index = 2; within = omega arith; is = refl; before_is = simp length-append (omega arith) }
-step f center outer h false (suc (suc (suc zero))) lt ok = record { index = 3; within = omega arith; is = refl; before_is = simp length-append (omega arith) }
-step f center outer h false (suc (suc (suc (suc zero)))) lt ok = record { index = 4; within = omega arith; is = refl; before_is = simp length-append (omega arith) }
-step f center outer h false (suc (suc (suc (suc (suc zero))))) lt ok = record { index = 5; within = omega arith; is = refl; before_is = simp length-append (omega arith) }
-step f center outer h false (suc (suc (suc (suc (suc (suc zero)))))) lt ok = record { index = 6; within = omega arith; is = refl; before_is = simp length-append (omega arith) }
+step f center outer h false (suc zero) lt ok =
+    record { index = 1; within = omega arith; is = refl; before_is = simp length-append (omega arith) }
+step f center outer h false (suc (suc zero)) lt ok =
+    record { index = 2; within = omega arith; is = refl; before_is = simp length-append (omega arith) }
+step f center outer h false (suc (suc (suc zero))) lt ok =
+    record { index = 3; within = omega arith; is = refl; before_is = simp length-append (omega arith) }
+step f center outer h false (suc (suc (suc (suc zero)))) lt ok =
+    record { index = 4; within = omega arith; is = refl; before_is = simp length-append (omega arith) }
+step f center outer h false (suc (suc (suc (suc (suc zero))))) lt ok =
+    record { index = 5; within = omega arith; is = refl; before_is = simp length-append (omega arith) }
+step f center outer h false (suc (suc (suc (suc (suc (suc zero)))))) lt ok =
+    record { index = 6; within = omega arith; is = refl; before_is = simp length-append (omega arith) }
 step f center outer h false (suc (suc (suc (suc (suc (suc (suc d))))))) lt ok = absurd (omega (arith, lt))
 step f center outer h true zero lt ok = record { index = 0; within = omega arith; is = refl; before_is = refl }
 step f center outer h true (suc zero) lt ok = absurd (ok refl refl)
-step f center outer h true (suc (suc zero)) lt ok = record { index = 1; within = omega arith; is = refl; before_is = simp length-append (omega arith) }
-step f center outer h true (suc (suc (suc zero))) lt ok = record { index = 2; within = omega arith; is = refl; before_is = simp length-append (omega arith) }
-step f center outer h true (suc (suc (suc (suc zero)))) lt ok = record { index = 3; within = omega arith; is = refl; before_is = simp length-append (omega arith) }
-step f center outer h true (suc (suc (suc (suc (suc zero))))) lt ok = record { index = 4; within = omega arith; is = refl; before_is = simp length-append (omega arith) }
-step f center outer h true (suc (suc (suc (suc (suc (suc zero)))))) lt ok = record { index = 5; within = omega arith; is = refl; before_is = simp length-append (omega arith) }
+step f center outer h true (suc (suc zero)) lt ok =
+    record { index = 1; within = omega arith; is = refl; before_is = simp length-append (omega arith) }
+step f center outer h true (suc (suc (suc zero))) lt ok =
+    record { index = 2; within = omega arith; is = refl; before_is = simp length-append (omega arith) }
+step f center outer h true (suc (suc (suc (suc zero)))) lt ok =
+    record { index = 3; within = omega arith; is = refl; before_is = simp length-append (omega arith) }
+step f center outer h true (suc (suc (suc (suc (suc zero))))) lt ok =
+    record { index = 4; within = omega arith; is = refl; before_is = simp length-append (omega arith) }
+step f center outer h true (suc (suc (suc (suc (suc (suc zero)))))) lt ok =
+    record { index = 5; within = omega arith; is = refl; before_is = simp length-append (omega arith) }
 step f center outer h true (suc (suc (suc (suc (suc (suc (suc d))))))) lt ok = absurd (omega (arith, lt))
 
-whole : (f : ℕ → List Address) (center outer : ℕ) → AreSizes f center outer → (p : Bool) → length (flat_map f (steps p)) ≡ center + (7 - next_step p 0) * outer
+whole : (f : ℕ → List Address) (center outer : ℕ) → AreSizes f center outer → (p : Bool)
+    → length (flat_map f (steps p)) ≡ center + (7 - next_step p 0) * outer
 whole f center outer h false = simp length-append (omega arith)
 whole f center outer h true = simp length-append (omega arith)
 
@@ -134,13 +163,16 @@ pub and_false : (p : Bool) → (p && false) ≡ false
 and_false true = refl
 and_false false = refl
 
-pub outer_size : HexagonsHaveSevens → (m : Address) (s k outer : ℕ) → (k == 0) ≡ false → outer ≡ 7 ^ (s - length m.digits - 1) → length (descendants (child m k) s) ≡ outer
+pub outer_size : HexagonsHaveSevens → (m : Address) (s k outer : ℕ) → (k == 0) ≡ false
+    → outer ≡ 7 ^ (s - length m.digits - 1) → length (descendants (child m k) s) ≡ outer
 outer_size hexagons m s k outer nz e =
-    let less : s - length (m.digits ++ k ∷ []) ≡ s - length m.digits - 1 = omega (arith, length-append m.digits (k ∷ [])) in
+    let less : s - length (m.digits ++ k ∷ []) ≡ s - length m.digits - 1 =
+    omega (arith, length-append m.digits (k ∷ [])) in
     let hexagon : is_pentagon (child m k) ≡ false = pentagon-child m k ∙ (rw nz (and_false (is_pentagon m))) in
     hexagons (child m k) s hexagon ∙ ap (λ n. 7 ^ n) less ∙ sym e
 
-sizes : HexagonsHaveSevens → (m : Address) (s center outer : ℕ) → center ≡ length (descendants (child m 0) s) → outer ≡ 7 ^ (s - length m.digits - 1) → AreSizes (λ k. descendants (child m k) s) center outer
+sizes : HexagonsHaveSevens → (m : Address) (s center outer : ℕ) → center ≡ length (descendants (child m 0) s)
+    → outer ≡ 7 ^ (s - length m.digits - 1) → AreSizes (λ k. descendants (child m k) s) center outer
 sizes hexagons m s center outer c o =
     record {
       zero = sym c;
@@ -152,18 +184,35 @@ sizes hexagons m s center outer c o =
       six = outer_size hexagons m s 6 outer refl o;
     }
 
-pub block_at : HexagonsHaveSevens → (m : Address) (s d center outer : ℕ) → length m.digits < s → center ≡ length (descendants (child m 0) s) → outer ≡ 7 ^ (s - length m.digits - 1) → d < 7 → (is_pentagon m ≡ true → d ≢ 1) → IsBlock m s d (offset (is_pentagon m) center outer d)
+pub block_at : HexagonsHaveSevens → (m : Address) (s d center outer : ℕ) → length m.digits < s
+    → center ≡ length (descendants (child m 0) s) → outer ≡ 7 ^ (s - length m.digits - 1) → d < 7
+    → (is_pentagon m ≡ true → d ≢ 1) → IsBlock m s d (offset (is_pentagon m) center outer d)
 block_at hexagons m s d center outer lt c o small ok =
-    record { finer = lt; step = step (λ k. descendants (child m k) s) center outer (sizes hexagons m s center outer c o) (is_pentagon m) d small ok }
+    record {
+      finer = lt;
+      step =
+          step (λ k. descendants (child m k) s) center outer (sizes hexagons m s center outer c o) (is_pentagon m) d
+          small ok;
+    }
 
-pub length-blocks : HexagonsHaveSevens → (m : Address) (s center outer : ℕ) → length m.digits < s → center ≡ length (descendants (child m 0) s) → outer ≡ 7 ^ (s - length m.digits - 1) → length (descendants m s) ≡ center + (7 - next_step (is_pentagon m) 0) * outer
+pub length-blocks : HexagonsHaveSevens → (m : Address) (s center outer : ℕ) → length m.digits < s
+    → center ≡ length (descendants (child m 0) s) → outer ≡ 7 ^ (s - length m.digits - 1)
+    → length (descendants m s) ≡ center + (7 - next_step (is_pentagon m) 0) * outer
 length-blocks hexagons m s center outer lt c o =
-    ap length (blocks m s lt) ∙ whole (λ k. descendants (child m k) s) center outer (sizes hexagons m s center outer c o) (is_pentagon m)
+    ap length (blocks m s lt)
+    ∙ whole (λ k. descendants (child m k) s) center outer (sizes hexagons m s center outer c o) (is_pentagon m)
 
 -- the members of a block, among all
-pub get-block : (m : Address) (s d before j : ℕ) (e : Address) → IsBlock m s d before → j < length (descendants (child m d) s) → (before + j < length (descendants m s)) × (get_or (descendants m s) (before + j) e ≡ get_or (descendants (child m d) s) j e)
+pub get-block : (m : Address) (s d before j : ℕ) (e : Address) → IsBlock m s d before
+    → j < length (descendants (child m d) s)
+    → (before + j < length (descendants m s))
+    × (get_or (descendants m s) (before + j) e ≡ get_or (descendants (child m d) s) j e)
 get-block m s d before j e h within =
-    let inner : j < length (descendants (child m (get_or (steps (is_pentagon m)) h.step.index d)) s) = rw h.step.is within in
-    let room = length-flat_map-take (λ k. descendants (child m k) s) (steps (is_pentagon m)) h.step.index d h.step.within in
-    let found = get_or-flat_map (λ k. descendants (child m k) s) (steps (is_pentagon m)) h.step.index j d e h.step.within inner in
+    let inner : j < length (descendants (child m (get_or (steps (is_pentagon m)) h.step.index d)) s) =
+    rw h.step.is within in
+    let room =
+    length-flat_map-take (λ k. descendants (child m k) s) (steps (is_pentagon m)) h.step.index d h.step.within in
+    let found =
+    get_or-flat_map (λ k. descendants (child m k) s) (steps (is_pentagon m)) h.step.index j d e h.step.within
+    inner in
     rw (blocks m s h.finer, ← h.step.before_is) (omega (arith, inner, room), found ∙ (rw h.step.is refl))

@@ -57,37 +57,52 @@ number_zero b ds = number_first b 0 ds ∙ omega arith
 
 -- ---- one level
 
-module _ (laws : DescendantsAreKnown) (cuts : CutsAreCells) (c : Address) (l d : ℕ) (v : IsCell c) (lt : l < length c.digits) (e : d ≡ get_or c.digits l 7) where
+module _ (laws : DescendantsAreKnown) (cuts : CutsAreCells) (c : Address) (l d : ℕ) (v : IsCell c)
+    (lt : l < length c.digits) (e : d ≡ get_or c.digits l 7) where
   next_pentagon : is_pentagon (ancestor_at c (l + 1)) ≡ (is_pentagon (ancestor_at c l) && d == 0)
   next_pentagon =
       let last = last_of_cut cuts c l d v lt e in
-      ap is_pentagon (sym (ap (λ m. child m d) (sym (cut_address c l lt)) ∙ whole_cell laws (ancestor_at c (l + 1)) (length c.digits) d last)) ∙ pentagon-child (ancestor_at c l) d
+      ap is_pentagon (sym (ap (λ m. child m d) (sym (cut_address c l lt))
+      ∙ whole_cell laws (ancestor_at c (l + 1)) (length c.digits) d last))
+      ∙ pentagon-child (ancestor_at c l) d
 
   under_zero : d ≡ 0 → position_under (ancestor_at c l) c ≡ position_under (ancestor_at c (l + 1)) c
   under_zero z =
       let last = last_of_cut cuts c l d v lt e in
       let before = before_center laws (ancestor_at c (l + 1)) (length c.digits) d last z in
-      let none : 0 + position_under (ancestor_at c (l + 1)) c ≡ position_under (ancestor_at c (l + 1)) c = omega arith in
-      ap (λ m. position_under m c) (sym (cut_address c l lt)) ∙ before.ahead c (cut_above c (l + 1) v (omega arith)) ∙ none
+      let none : 0 + position_under (ancestor_at c (l + 1)) c ≡ position_under (ancestor_at c (l + 1)) c =
+      omega arith in
+      ap (λ m. position_under m c) (sym (cut_address c l lt)) ∙ before.ahead c (cut_above c (l + 1) v (omega arith))
+      ∙ none
 
-  above_pentagon : is_pentagon (ancestor_at c l) ≡ true → is_pentagon (ancestor_at (ancestor_at c (l + 1)) (length (ancestor_at c (l + 1)).digits - 1)) ≡ true
+  above_pentagon : is_pentagon (ancestor_at c l) ≡ true
+      → is_pentagon (ancestor_at (ancestor_at c (l + 1)) (length (ancestor_at c (l + 1)).digits - 1)) ≡ true
   above_pentagon h = ap is_pentagon (cut_address c l lt) ∙ h
 
   under_two : is_pentagon (ancestor_at c l) ≡ true → d ≢ 0 → 2 ≤ d
-  under_two h nz = after_deleted laws (ancestor_at c (l + 1)) (length c.digits) d (last_of_cut cuts c l d v lt e) (above_pentagon h) nz
+  under_two h nz =
+      after_deleted laws (ancestor_at c (l + 1)) (length c.digits) d (last_of_cut cuts c l d v lt e) (above_pentagon h)
+      nz
 
-  under_some : (n : ℕ) → n ≡ length c.digits - (l + 1) → is_pentagon (ancestor_at c l) ≡ true → d ≢ 0 → position_under (ancestor_at c l) c ≡ 1 + 5 * ((7 ^ n - 1) / 6) + (d - 2) * 7 ^ n + position_under (ancestor_at c (l + 1)) c
+  under_some : (n : ℕ) → n ≡ length c.digits - (l + 1) → is_pentagon (ancestor_at c l) ≡ true → d ≢ 0
+      → position_under (ancestor_at c l) c
+      ≡ 1 + 5 * ((7 ^ n - 1) / 6) + (d - 2) * 7 ^ n + position_under (ancestor_at c (l + 1)) c
   under_some n levels h nz =
       let last = last_of_cut cuts c l d v lt e in
       let m = ancestor_at (ancestor_at c (l + 1)) (length (ancestor_at c (l + 1)).digits - 1) in
       let size : length (take (l + 1) c.digits) ≡ l + 1 = length-take-le (l + 1) c.digits (omega arith) in
-      let outer : 7 ^ n ≡ 7 ^ (length c.digits - length (take (l + 1) c.digits)) = ap (λ k. 7 ^ k) (omega (arith, levels, size)) in
+      let outer : 7 ^ n ≡ 7 ^ (length c.digits - length (take (l + 1) c.digits)) =
+      ap (λ k. 7 ^ k) (omega (arith, levels, size)) in
       let long : length (take l c.digits) ≡ l = length-take-le l c.digits (omega (arith, lt)) in
-      let deep : length c.digits - length (child (ancestor_at c l) 0).digits ≡ n = omega (arith, levels, long, length-append (take l c.digits) (0 ∷ [])) in
+      let deep : length c.digits - length (child (ancestor_at c l) 0).digits ≡ n =
+      omega (arith, levels, long, length-append (take l c.digits) (0 ∷ [])) in
       let inner : is_pentagon (child (ancestor_at c l) 0) ≡ true = pentagon-child (ancestor_at c l) 0 ∙ (rw h refl) in
       let center : 1 + 5 * ((7 ^ n - 1) / 6) ≡ length (descendants (child (ancestor_at c l) 0) (length c.digits)) =
-      sym (laws.pentagons (child (ancestor_at c l) 0) (length c.digits) inner ∙ ap (λ k. 1 + 5 * ((7 ^ k - 1) / 6)) deep) in
-      let before = before_pentagon laws (ancestor_at c (l + 1)) (length c.digits) d last (1 + 5 * ((7 ^ n - 1) / 6)) (7 ^ n) (above_pentagon h) nz (center ∙ ap (λ m. length (descendants (child m 0) (length c.digits))) (sym (cut_address c l lt))) outer in
+      sym (laws.pentagons (child (ancestor_at c l) 0) (length c.digits) inner
+      ∙ ap (λ k. 1 + 5 * ((7 ^ k - 1) / 6)) deep) in
+      let before = before_pentagon laws (ancestor_at c (l + 1)) (length c.digits) d last (1 + 5 * ((7 ^ n - 1) / 6))
+      (7 ^ n) (above_pentagon h) nz
+      (center ∙ ap (λ m. length (descendants (child m 0) (length c.digits))) (sym (cut_address c l lt))) outer in
       ap (λ m. position_under m c) (sym (cut_address c l lt)) ∙ before.ahead c (cut_above c (l + 1) v (omega arith))
 
 -- ---- all levels
@@ -121,10 +136,12 @@ no_zero d h e = grind (arith, nat_tests)
 is_zero : (d : ℕ) → (d == 0) ≡ true → d ≡ 0
 is_zero d h = grind (arith, nat_tests)
 
-pub below_pentagon : DescendantsAreKnown → CutsAreCells → (c : Address) (n q : ℕ) → IsCell c → q + n ≡ length c.digits → is_pentagon (ancestor_at c q) ≡ true → IsBelowPentagon c q
+pub below_pentagon : DescendantsAreKnown → CutsAreCells → (c : Address) (n q : ℕ) → IsCell c → q + n ≡ length c.digits
+    → is_pentagon (ancestor_at c q) ≡ true → IsBelowPentagon c q
 below_pentagon laws cuts c zero q v le h =
     let none = below_all q c.digits (omega (arith, le)) in
-    let here : 0 ≡ position_under (ancestor_at c q) c = counted_end laws c q q 0 v (omega (arith, le)) (record { is = omega arith }) in
+    let here : 0 ≡ position_under (ancestor_at c q) c =
+    counted_end laws c q q 0 v (omega (arith, le)) (record { is = omega arith }) in
     record {
       places = 0;
       small = rw (none, pow-zero 8) (lit< tt);
@@ -132,7 +149,8 @@ below_pentagon laws cuts c zero q v le h =
       is = rw (none, ← here) refl;
     }
 below_pentagon laws cuts c (suc n) q v le h =
-    by_digit (get_or c.digits q 7 == 0) refl (λ pentagon. below_pentagon laws cuts c n (q + 1) v (omega (arith, le)) pentagon)
+    by_digit (get_or c.digits q 7 == 0) refl
+    (λ pentagon. below_pentagon laws cuts c n (q + 1) v (omega (arith, le)) pentagon)
   where
     lt : q < length c.digits
     lt = omega (arith, le)
@@ -140,14 +158,18 @@ below_pentagon laws cuts c (suc n) q v le h =
     split : drop q c.digits ≡ get_or c.digits q 7 ∷ drop (q + 1) c.digits
     split = let next : suc q ≡ q + 1 = omega arith in rw next at (drop-cons c.digits q 7 lt)
 
-    by_digit : (b : Bool) → (get_or c.digits q 7 == 0) ≡ b → (is_pentagon (ancestor_at c (q + 1)) ≡ true → IsBelowPentagon c (q + 1)) → IsBelowPentagon c q
+    by_digit : (b : Bool) → (get_or c.digits q 7 == 0) ≡ b
+        → (is_pentagon (ancestor_at c (q + 1)) ≡ true → IsBelowPentagon c (q + 1)) → IsBelowPentagon c q
     by_digit true e deeper =
         let z = is_zero (get_or c.digits q 7) e in
-        let pentagon : is_pentagon (ancestor_at c (q + 1)) ≡ true = next_pentagon laws cuts c q (get_or c.digits q 7) v lt refl ∙ (rw (h, e) refl) in
+        let pentagon : is_pentagon (ancestor_at c (q + 1)) ≡ true =
+        next_pentagon laws cuts c q (get_or c.digits q 7) v lt refl ∙ (rw (h, e) refl) in
         let rest = deeper pentagon in
         let same : drop q c.digits ≡ 0 ∷ drop (q + 1) c.digits = split ∙ ap (λ d. d ∷ drop (q + 1) c.digits) z in
-        let eight : number_from_digits 8 (drop q c.digits) ≡ number_from_digits 8 (drop (q + 1) c.digits) = ap (λ ds. number_from_digits 8 ds) same ∙ number_zero 8 (drop (q + 1) c.digits) in
-        let seven : number_from_digits 7 (drop q c.digits) ≡ number_from_digits 7 (drop (q + 1) c.digits) = ap (λ ds. number_from_digits 7 ds) same ∙ number_zero 7 (drop (q + 1) c.digits) in
+        let eight : number_from_digits 8 (drop q c.digits) ≡ number_from_digits 8 (drop (q + 1) c.digits) =
+        ap (λ ds. number_from_digits 8 ds) same ∙ number_zero 8 (drop (q + 1) c.digits) in
+        let seven : number_from_digits 7 (drop q c.digits) ≡ number_from_digits 7 (drop (q + 1) c.digits) =
+        ap (λ ds. number_from_digits 7 ds) same ∙ number_zero 7 (drop (q + 1) c.digits) in
         record {
           places = rest.places;
           small = rw eight rest.small;
@@ -157,15 +179,21 @@ below_pentagon laws cuts c (suc n) q v le h =
     by_digit false e deeper =
         let d = get_or c.digits q 7 in
         let nz = no_zero (get_or c.digits q 7) e in
-        let hexagon : is_pentagon (ancestor_at c (q + 1)) ≡ false = next_pentagon laws cuts c q (get_or c.digits q 7) v lt refl ∙ (rw (h, e) refl) in
+        let hexagon : is_pentagon (ancestor_at c (q + 1)) ≡ false =
+        next_pentagon laws cuts c q (get_or c.digits q 7) v lt refl ∙ (rw (h, e) refl) in
         let rest = position_in_sevens laws cuts c (q + 1) v (omega (arith, lt)) hexagon in
         let long : length (drop (q + 1) c.digits) ≡ n = omega (arith, le, length-drop (q + 1) c.digits) in
-        let eight : number_from_digits 8 (drop q c.digits) ≡ get_or c.digits q 7 * 8 ^ n + number_from_digits 8 (drop (q + 1) c.digits) =
-        ap (λ ds. number_from_digits 8 ds) split ∙ number_first 8 (get_or c.digits q 7) (drop (q + 1) c.digits) ∙ ap (λ k. get_or c.digits q 7 * 8 ^ k + number_from_digits 8 (drop (q + 1) c.digits)) long in
-        let seven : number_from_digits 7 (drop q c.digits) ≡ get_or c.digits q 7 * 7 ^ n + number_from_digits 7 (drop (q + 1) c.digits) =
-        ap (λ ds. number_from_digits 7 ds) split ∙ number_first 7 (get_or c.digits q 7) (drop (q + 1) c.digits) ∙ ap (λ k. get_or c.digits q 7 * 7 ^ k + number_from_digits 7 (drop (q + 1) c.digits)) long in
+        let eight : number_from_digits 8 (drop q c.digits)
+        ≡ get_or c.digits q 7 * 8 ^ n + number_from_digits 8 (drop (q + 1) c.digits) =
+        ap (λ ds. number_from_digits 8 ds) split ∙ number_first 8 (get_or c.digits q 7) (drop (q + 1) c.digits)
+        ∙ ap (λ k. get_or c.digits q 7 * 8 ^ k + number_from_digits 8 (drop (q + 1) c.digits)) long in
+        let seven : number_from_digits 7 (drop q c.digits)
+        ≡ get_or c.digits q 7 * 7 ^ n + number_from_digits 7 (drop (q + 1) c.digits) =
+        ap (λ ds. number_from_digits 7 ds) split ∙ number_first 7 (get_or c.digits q 7) (drop (q + 1) c.digits)
+        ∙ ap (λ k. get_or c.digits q 7 * 7 ^ k + number_from_digits 7 (drop (q + 1) c.digits)) long in
         let whole : length (drop q c.digits) ≡ suc n = omega (arith, le, length-drop q c.digits) in
-        let less : number_from_digits 8 (drop q c.digits) < 8 ^ suc n = rw whole at (number_lt 8 (drop q c.digits) (below_eight q c.digits v.digits_small)) in
+        let less : number_from_digits 8 (drop q c.digits) < 8 ^ suc n =
+        rw whole at (number_lt 8 (drop q c.digits) (below_eight q c.digits v.digits_small)) in
         let back : suc n - 1 ≡ n = omega arith in
         let here = under_some laws cuts c q (get_or c.digits q 7) v lt refl n (omega (arith, le)) h nz in
         let two = apart (get_or c.digits q 7) (7 ^ n) (under_two laws cuts c q (get_or c.digits q 7) v lt refl h nz) in
@@ -182,24 +210,29 @@ lt_of : (i j : ℕ) → 2 ^ i < 2 ^ j → i < j
 lt_of i j h =
     elim (cases_Bool (nat_lt i j)) [
       | inl t ↦ grind (arith, nat_tests)
-      | inr f ↦ (let le : j ≤ i = grind (arith, nat_tests) in let p : 2 ^ j ≤ 2 ^ i = pow-le-pow_right (omega arith) le in absurd (omega (arith, h, p)))
+      | inr f ↦
+          (let le : j ≤ i = grind (arith, nat_tests) in
+          let p : 2 ^ j ≤ 2 ^ i = pow-le-pow_right (omega arith) le in absurd (omega (arith, h, p)))
     ]
 
 eights : (k : ℕ) → 8 ^ k ≡ 2 ^ (3 * k)
 eights zero = refl
 eights (suc k) =
     let next : 3 * suc k ≡ suc (suc (suc (3 * k))) = omega arith in
-    rw (next, pow-suc 2 (suc (suc (3 * k))), pow-suc 2 (suc (3 * k)), pow-suc 2 (3 * k), pow-suc 8 k, eights k) (omega arith)
+    rw (next, pow-suc 2 (suc (suc (3 * k))), pow-suc 2 (suc (3 * k)), pow-suc 2 (3 * k), pow-suc 8 k, eights k)
+    (omega arith)
 
 -- the digits of three bits, by the zeros in front
-pub places_are : (a n : ℕ) → a < 2 ^ 64 → a < 8 ^ n → (0 < n → 8 ^ (n - 1) ≤ a) → (66 - count_leading_zeros 64 a) / 3 ≡ n
+pub places_are : (a n : ℕ) → a < 2 ^ 64 → a < 8 ^ n → (0 < n → 8 ^ (n - 1) ≤ a)
+    → (66 - count_leading_zeros 64 a) / 3 ≡ n
 places_are a n fits less least =
     let b = leading_length 64 a fits in
     let double = pow-suc 2 (3 * n) in
     let most : b.0 < suc (3 * n) = lt_of b.0 (suc (3 * n)) (omega (arith, b.3, double, less, eights n)) in
     by_count n most least (λ k h. lt_of (3 * k) b.0 (omega (arith, h, eights k, b.2))) b.1
   where
-    by_count : (n : ℕ) {m : ℕ} → m < suc (3 * n) → (0 < n → 8 ^ (n - 1) ≤ a) → ((k : ℕ) → 8 ^ k ≤ a → 3 * k < m) → count_leading_zeros 64 a + m ≡ 64 → (66 - count_leading_zeros 64 a) / 3 ≡ n
+    by_count : (n : ℕ) {m : ℕ} → m < suc (3 * n) → (0 < n → 8 ^ (n - 1) ≤ a) → ((k : ℕ) → 8 ^ k ≤ a → 3 * k < m)
+        → count_leading_zeros 64 a + m ≡ 64 → (66 - count_leading_zeros 64 a) / 3 ≡ n
     by_count zero most least above sum = omega (arith, most, sum)
     by_count (suc n) most least above sum =
         let back : suc n - 1 ≡ n = omega arith in

@@ -33,7 +33,8 @@ sevens n (suc k) =
     rw (pow-suc 8 k) (sevens (n * 8 + 7) k ∙ spread)
 
 -- one number with as many digits: one front, and the same digits
-same_digits : (m n : ℕ) (xs ys : List ℕ) → AllBelowBase 8 xs → AllBelowBase 8 ys → length xs ≡ length ys → after m xs ≡ after n ys → (m ≡ n) × (xs ≡ ys)
+same_digits : (m n : ℕ) (xs ys : List ℕ) → AllBelowBase 8 xs → AllBelowBase 8 ys → length xs ≡ length ys
+    → after m xs ≡ after n ys → (m ≡ n) × (xs ≡ ys)
 same_digits m n [] [] h k e f = (f, refl)
 same_digits m n [] (y ∷ ys) h k e f = absurd (omega (arith, e))
 same_digits m n (x ∷ xs) [] h k e f = absurd (omega (arith, e))
@@ -58,7 +59,8 @@ below-drop b (suc q) [] h = tt
 below-drop b (suc q) (d ∷ ds) h = below-drop b q ds h.1
 
 -- a front without 7 is within the digits
-within_digits : (ds : List ℕ) (q m : ℕ) → q ≤ length ds + m → AllBelowBase 7 (take q (ds ++ replicate m 7)) → q ≤ length ds
+within_digits : (ds : List ℕ) (q m : ℕ) → q ≤ length ds + m → AllBelowBase 7 (take q (ds ++ replicate m 7))
+    → q ≤ length ds
 within_digits ds zero m le h = omega arith
 within_digits [] (suc q) zero le h = absurd (omega (arith, le))
 within_digits [] (suc q) (suc m) le h = absurd (omega (arith, h.0))
@@ -68,7 +70,12 @@ within_digits (d ∷ ds) (suc q) m le h = let rest = within_digits ds q m (omega
 
 length-padded : (c : Address) → IsCell c → length (padded c.digits) ≡ 15
 length-padded c h =
-    omega (arith, h.coarse, length-append c.digits (replicate (15 - length c.digits) 7), length-replicate {A = ℕ} (15 - length c.digits) 7)
+    omega (
+      arith,
+      h.coarse,
+      length-append c.digits (replicate (15 - length c.digits) 7),
+      length-replicate {A = ℕ} (15 - length c.digits) 7,
+    )
 
 padded_below : (c : Address) → IsCell c → AllBelowBase 8 (padded c.digits)
 padded_below c h = below-padded c.digits (15 - length c.digits) h.digits_small
@@ -78,13 +85,15 @@ whole_key c = after c.base (padded c.digits)
 
 pub whole_small : (c : Address) → IsCell c → whole_key c < 2 ^ 52
 whole_small c h =
-    let low : whole_key c < (c.base + 1) * 8 ^ 15 = rw (length-padded c h) at (number_after_lt 8 c.base (padded c.digits) (padded_below c h)) in
+    let low : whole_key c < (c.base + 1) * 8 ^ 15 =
+    rw (length-padded c h) at (number_after_lt 8 c.base (padded c.digits) (padded_below c h)) in
     omega (arith, low, h.base_small)
 
 pub number_is : (c : Address) → IsCell c → number_of c ≡ 2 ^ 59 + length c.digits * 2 ^ 52 + whole_key c
 unfolding number_of
 number_is c h =
-    let is : whole_key c ≡ c.base * 8 ^ 15 + number_from_digits 8 (padded c.digits) = rw (length-padded c h) at (after_is c.base (padded c.digits)) in
+    let is : whole_key c ≡ c.base * 8 ^ 15 + number_from_digits 8 (padded c.digits) =
+    rw (length-padded c h) at (after_is c.base (padded c.digits)) in
     omega (arith, is)
 
 key_is : (c : Address) → IsCell c → post_order_key c ≡ whole_key c
@@ -95,15 +104,20 @@ abbrev front : Address → ℕ → ℕ
 front c q = after c.base (take q (padded c.digits))
 
 -- a key between its front and the next one
-after_between : (n : ℕ) (ds : List ℕ) → AllBelowBase 8 ds → (n * 8 ^ length ds ≤ after n ds) × (after n ds < (n + 1) * 8 ^ length ds)
+after_between : (n : ℕ) (ds : List ℕ) → AllBelowBase 8 ds
+    → (n * 8 ^ length ds ≤ after n ds) × (after n ds < (n + 1) * 8 ^ length ds)
 after_between n ds h = (omega (arith, after_is n ds), number_after_lt 8 n ds h)
 
-key_between : (c : Address) (q : ℕ) → IsCell c → q ≤ 15 → (front c q * 8 ^ (15 - q) ≤ whole_key c) × (whole_key c < (front c q + 1) * 8 ^ (15 - q))
+key_between : (c : Address) (q : ℕ) → IsCell c → q ≤ 15
+    → (front c q * 8 ^ (15 - q) ≤ whole_key c) × (whole_key c < (front c q + 1) * 8 ^ (15 - q))
 key_between c q h le =
-    let size : length (drop q (padded c.digits)) ≡ 15 - q = omega (arith, length-drop q (padded c.digits), length-padded c h) in
+    let size : length (drop q (padded c.digits)) ≡ 15 - q =
+    omega (arith, length-drop q (padded c.digits), length-padded c h) in
     let split : whole_key c ≡ after (front c q) (drop q (padded c.digits)) =
-    ap (after c.base) (sym (take-append-drop q (padded c.digits))) ∙ number_after_append 8 c.base (take q (padded c.digits)) (drop q (padded c.digits)) in
-    rw (split, ← size) (after_between (front c q) (drop q (padded c.digits)) (below-drop 8 q (padded c.digits) (padded_below c h)))
+    ap (after c.base) (sym (take-append-drop q (padded c.digits)))
+    ∙ number_after_append 8 c.base (take q (padded c.digits)) (drop q (padded c.digits)) in
+    rw (split, ← size)
+    (after_between (front c q) (drop q (padded c.digits)) (below-drop 8 q (padded c.digits) (padded_below c h)))
 
 own_digits : (c : Address) → take (length c.digits) (padded c.digits) ≡ c.digits
 own_digits c = take-append_seam c.digits (replicate (15 - length c.digits) 7)
@@ -111,16 +125,20 @@ own_digits c = take-append_seam c.digits (replicate (15 - length c.digits) 7)
 -- a cell's key is the last one with its front
 key_last : (c : Address) → whole_key c + 1 ≡ (front c (length c.digits) + 1) * 8 ^ (15 - length c.digits)
 key_last c =
-    rw (own_digits c, number_after_append 8 c.base c.digits (replicate (15 - length c.digits) 7)) (sevens (after c.base c.digits) (15 - length c.digits))
+    rw (own_digits c, number_after_append 8 c.base c.digits (replicate (15 - length c.digits) 7))
+    (sevens (after c.base c.digits) (15 - length c.digits))
 
 -- ---- ancestors have the front
 
-front_from : (a x : Address) → IsCell a → IsCell x → IsAncestor a x → front x (length a.digits) ≡ front a (length a.digits)
+front_from : (a x : Address) → IsCell a → IsCell x → IsAncestor a x
+    → front x (length a.digits) ≡ front a (length a.digits)
 front_from a x ha hx above =
     let digits : take (length a.digits) x.digits ≡ a.digits = ap (λ c. c.digits) above in
     let base : x.base ≡ a.base = ap (λ c. c.base) above in
-    let le : length a.digits ≤ length x.digits = omega (arith, ap length digits, length-take-at_most (length a.digits) x.digits) in
-    let front_is : take (length a.digits) (padded x.digits) ≡ a.digits = take-append-le (length a.digits) x.digits (replicate (15 - length x.digits) 7) le ∙ digits in
+    let le : length a.digits ≤ length x.digits =
+    omega (arith, ap length digits, length-take-at_most (length a.digits) x.digits) in
+    let front_is : take (length a.digits) (padded x.digits) ≡ a.digits =
+    take-append-le (length a.digits) x.digits (replicate (15 - length x.digits) 7) le ∙ digits in
     rw (front_is, own_digits a, base) refl
   where
     length-take-at_most : (q : ℕ) (ds : List ℕ) → length (take q ds) ≤ length ds
@@ -128,23 +146,33 @@ front_from a x ha hx above =
     length-take-at_most (suc q) [] = omega arith
     length-take-at_most (suc q) (d ∷ ds) = let rest = length-take-at_most q ds in omega (arith, rest)
 
-same : (b : ℕ) (xs ys : List ℕ) → xs ≡ ys → ◌≡◌ {A = Address} (record { base = b; digits = xs }) (record { base = b; digits = ys })
+same : (b : ℕ) (xs ys : List ℕ) → xs ≡ ys
+    → ◌≡◌ {A = Address} (record { base = b; digits = xs }) (record { base = b; digits = ys })
 same b xs ys e = ap {B = Address} (λ zs. record { base = b; digits = zs }) e
 
 address_same : (a b : Address) → a.base ≡ b.base → a.digits ≡ b.digits → a ≡ b
-address_same a b e f = same a.base a.digits b.digits f ∙ ap {B = Address} (λ n. record { base = n; digits = b.digits }) e
+address_same a b e f =
+    same a.base a.digits b.digits f ∙ ap {B = Address} (λ n. record { base = n; digits = b.digits }) e
 
-ancestor_from : (a x : Address) → IsCell a → IsCell x → front x (length a.digits) ≡ front a (length a.digits) → IsAncestor a x
+ancestor_from : (a x : Address) → IsCell a → IsCell x → front x (length a.digits) ≡ front a (length a.digits)
+    → IsAncestor a x
 ancestor_from a x ha hx e =
     let q = length a.digits in
     let of_x = below-take (length a.digits) (padded x.digits) (padded_below x hx) in
     let of_a = below-take (length a.digits) (padded a.digits) (padded_below a ha) in
-    let size_x : length (take (length a.digits) (padded x.digits)) ≡ length a.digits = length-take-le (length a.digits) (padded x.digits) (omega (arith, length-padded x hx, ha.coarse)) in
-    let size_a : length (take (length a.digits) (padded a.digits)) ≡ length a.digits = length-take-le (length a.digits) (padded a.digits) (omega (arith, length-padded a ha, ha.coarse)) in
-    let both = same_digits x.base a.base (take (length a.digits) (padded x.digits)) (take (length a.digits) (padded a.digits)) of_x of_a (size_x ∙ sym size_a) e in
+    let size_x : length (take (length a.digits) (padded x.digits)) ≡ length a.digits =
+    length-take-le (length a.digits) (padded x.digits) (omega (arith, length-padded x hx, ha.coarse)) in
+    let size_a : length (take (length a.digits) (padded a.digits)) ≡ length a.digits =
+    length-take-le (length a.digits) (padded a.digits) (omega (arith, length-padded a ha, ha.coarse)) in
+    let both =
+    same_digits x.base a.base (take (length a.digits) (padded x.digits)) (take (length a.digits) (padded a.digits))
+    of_x of_a (size_x ∙ sym size_a) e in
     let is : take (length a.digits) (padded x.digits) ≡ a.digits = both.1 ∙ own_digits a in
-    let le : length a.digits ≤ length x.digits = within_digits x.digits (length a.digits) (15 - length x.digits) (omega (arith, ha.coarse, hx.coarse)) (subst (AllBelowBase 7) (sym is) ha.digits_small) in
-    address_same (ancestor_at x (length a.digits)) a both.0 (sym (take-append-le (length a.digits) x.digits (replicate (15 - length x.digits) 7) le) ∙ is)
+    let le : length a.digits ≤ length x.digits =
+    within_digits x.digits (length a.digits) (15 - length x.digits) (omega (arith, ha.coarse, hx.coarse))
+    (subst (AllBelowBase 7) (sym is) ha.digits_small) in
+    address_same (ancestor_at x (length a.digits)) a both.0
+    (sym (take-append-le (length a.digits) x.digits (replicate (15 - length x.digits) 7) le) ∙ is)
 
 one_more : (f p : ℕ) → (f + 1) * p ≡ f * p + p
 one_more f p = grind arith
@@ -153,19 +181,23 @@ one_more f p = grind arith
 one_front : (f g p kx ka : ℕ) → f * p ≤ kx → kx < (f + 1) * p → ka + 1 ≡ (g + 1) * p → kx ≤ ka → ka < kx + p → f ≡ g
 one_front f g p kx ka low high last le reach =
     elim (cases_lt f g) [
-      | inl less ↦ let a = mul-le (f + 1) p g p (omega (arith, less)) (omega arith) in absurd (omega (arith, a, one_more g p))
+      | inl less ↦
+          let a = mul-le (f + 1) p g p (omega (arith, less)) (omega arith) in absurd (omega (arith, a, one_more g p))
       | inr not ↦ elim (cases_lt g f) [
         | inl more ↦ let a = mul-le (g + 1) p f p (omega (arith, more)) (omega arith) in absurd (omega (arith, a))
         | inr also ↦ omega (arith, not, also)
       ]
     ]
 
-pub inside : (a x : Address) → IsCell a → IsCell x → (whole_key x ≤ whole_key a) × (whole_key a < whole_key x + 8 ^ (15 - length a.digits)) → IsAncestor a x
+pub inside : (a x : Address) → IsCell a → IsCell x
+    → (whole_key x ≤ whole_key a) × (whole_key a < whole_key x + 8 ^ (15 - length a.digits)) → IsAncestor a x
 inside a x ha hx h =
     let b = key_between x (length a.digits) hx (omega (arith, ha.coarse)) in
-    ancestor_from a x ha hx (one_front (front x (length a.digits)) (front a (length a.digits)) (8 ^ (15 - length a.digits)) (whole_key x) (whole_key a) b.0 b.1 (key_last a) h.0 h.1)
+    ancestor_from a x ha hx (one_front (front x (length a.digits)) (front a (length a.digits))
+    (8 ^ (15 - length a.digits)) (whole_key x) (whole_key a) b.0 b.1 (key_last a) h.0 h.1)
 
-pub within : (a x : Address) → IsCell a → IsCell x → IsAncestor a x → (whole_key x ≤ whole_key a) × (whole_key a < whole_key x + 8 ^ (15 - length a.digits))
+pub within : (a x : Address) → IsCell a → IsCell x → IsAncestor a x
+    → (whole_key x ≤ whole_key a) × (whole_key a < whole_key x + 8 ^ (15 - length a.digits))
 within a x ha hx above =
     let b = rw (front_from a x ha hx above) at (key_between x (length a.digits) hx (omega (arith, ha.coarse))) in
     let last = key_last a in
@@ -175,6 +207,7 @@ within a x ha hx above =
 pub cells_form_intervals : CellsFormIntervals
 cells_form_intervals =
     record {
-      interval = λ a x ha hx. rw (key_is a ha, key_is x hx) ((λ above. within a x ha hx above), (λ h. inside a x ha hx h));
+      interval =
+          λ a x ha hx. rw (key_is a ha, key_is x hx) ((λ above. within a x ha hx above), (λ h. inside a x ha hx h));
       number = λ c h. rw (key_is c h) (number_is c h);
     }

@@ -13,4 +13,6 @@ last_at c s = along c (replicate (s - resolution c) 6)
 -- that of the last one, whatever the resolution of these cells
 abbrev pub ChildrenFormRanges : Type 0
 ChildrenFormRanges =
-    (c x : Address) (s : ℕ) → IsCell c → resolution c ≤ s → s ≤ 15 → IsCell x → IsDescendant c s x ↔ ((number_of (center_descendant c s) ≤ number_of x) × (number_of x ≤ number_of (last_at c s)))
+    (c x : Address) (s : ℕ) → IsCell c → resolution c ≤ s → s ≤ 15 → IsCell x
+    → IsDescendant c s x
+    ↔ ((number_of (center_descendant c s) ≤ number_of x) × (number_of x ≤ number_of (last_at c s)))

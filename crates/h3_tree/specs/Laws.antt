@@ -19,6 +19,8 @@ pub record CellsFormTrees : Type 0 where
   pub resolution-ancestor_at : (c : Address) (r : ℕ) → r ≤ resolution c → resolution (ancestor_at c r) ≡ r
   pub cut_cell : (c : Address) (r : ℕ) → IsCell c → r ≤ resolution c → IsCell (ancestor_at c r)
   -- at each resolution from its own on a cell has a descendant, and all that it has are listed, in ascending order
-  pub center_descendant : (c : Address) (s : ℕ) → IsCell c → resolution c ≤ s → s ≤ 15 → IsDescendant c s (center_descendant c s)
-  pub listed : (c : Address) (s : ℕ) → IsCell c → resolution c ≤ s → s ≤ 15 → (x : Address) → Contains (descendants c s) x ↔ IsDescendant c s x
+  pub center_descendant : (c : Address) (s : ℕ) → IsCell c → resolution c ≤ s → s ≤ 15
+      → IsDescendant c s (center_descendant c s)
+  pub listed : (c : Address) (s : ℕ) → IsCell c → resolution c ≤ s → s ≤ 15 → (x : Address)
+      → Contains (descendants c s) x ↔ IsDescendant c s x
   pub ascending : (c : Address) (s : ℕ) → AllPairs (λ a b. number_of a < number_of b) (descendants c s)

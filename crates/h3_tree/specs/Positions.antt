@@ -16,9 +16,11 @@ pub record HasPosition (c : Address) (s : ℕ) (x : Address) (position : ℕ) : 
 -- MembersHavePositions: the descendant at a position has that position
 abbrev pub MembersHavePositions : Type 0
 MembersHavePositions =
-    (c x : Address) (s position : ℕ) → IsCell c → resolution c ≤ s → s ≤ 15 → slice_get (descendants c s) position ≡ Some x → position_under c x ≡ position
+    (c x : Address) (s position : ℕ) → IsCell c → resolution c ≤ s → s ≤ 15
+    → slice_get (descendants c s) position ≡ Some x → position_under c x ≡ position
 
 -- PositionsHaveMembers: the descendant at a cell's position is that cell
 abbrev pub PositionsHaveMembers : Type 0
 PositionsHaveMembers =
-    (c x : Address) (s : ℕ) → IsCell c → resolution c ≤ s → s ≤ 15 → IsDescendant c s x → slice_get (descendants c s) (position_under c x) ≡ Some x
+    (c x : Address) (s : ℕ) → IsCell c → resolution c ≤ s → s ≤ 15 → IsDescendant c s x
+    → slice_get (descendants c s) (position_under c x) ≡ Some x

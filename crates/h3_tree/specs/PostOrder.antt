@@ -9,6 +9,8 @@ post_order_key c = number_of c % 2 ^ 52
 
 -- CellsFormIntervals: a cell and those below it are the cells whose keys lie in an interval that ends at the cell's own
 pub record CellsFormIntervals : Type 0 where
-  pub interval : (a x : Address) → IsCell a → IsCell x → IsAncestor a x ↔ ((post_order_key x ≤ post_order_key a) × (post_order_key a < post_order_key x + 8 ^ (15 - resolution a)))
+  pub interval : (a x : Address) → IsCell a → IsCell x
+      → IsAncestor a x
+      ↔ ((post_order_key x ≤ post_order_key a) × (post_order_key a < post_order_key x + 8 ^ (15 - resolution a)))
   -- at one resolution the order is that of the numbers
   pub number : (c : Address) → IsCell c → number_of c ≡ 2 ^ 59 + resolution c * 2 ^ 52 + post_order_key c

@@ -25,4 +25,5 @@ descent_refusal r res =
 abbrev pub position_refusal : Address → ℤ → ℕ → Option H3Error
 position_refusal c res position =
     option_map_or (λ s. if nat_lt s (resolution c) then Some ResMismatch
-    else (if nat_le (length (descendants c s)) position then Some Domain else None)) (resolution_of res) (Some ResDomain)
+    else (if nat_le (length (descendants c s)) position then Some Domain else None)) (resolution_of res)
+    (Some ResDomain)

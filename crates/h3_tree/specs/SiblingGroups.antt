@@ -12,4 +12,5 @@ parents_left f = children_left f.parents
 
 -- DescendantsAreChildren: the descendants of a cell are the children of those one level above, in their order
 abbrev pub DescendantsAreChildren : Type 0
-DescendantsAreChildren = (c : Address) (r : ℕ) → resolution c < r → flat_map children (descendants c (r - 1)) ≡ descendants c r
+DescendantsAreChildren =
+    (c : Address) (r : ℕ) → resolution c < r → flat_map children (descendants c (r - 1)) ≡ descendants c r

@@ -39,8 +39,10 @@ pub returns-clause-values : goal.returns-clause-values
 returns-clause-values g c =
     let hs = c.args.indexes.now in
     let end : c.loop-i.i ≡ length hs = omega (arith, c.loop-i.auto.i-end, c.loop-i-test.false) in
-    let all : map (λ h. g.Q.ColumnFunction.outcome c.args.question.now h) (take c.loop-i.i hs) ≡ map (λ h. g.Q.ColumnFunction.outcome c.args.question.now h) hs =
-    ap (λ n. map (λ h. g.Q.ColumnFunction.outcome c.args.question.now h) (take n hs)) end ∙ whole (λ h. g.Q.ColumnFunction.outcome c.args.question.now h) hs in
+    let all : map (λ h. g.Q.ColumnFunction.outcome c.args.question.now h) (take c.loop-i.i hs)
+    ≡ map (λ h. g.Q.ColumnFunction.outcome c.args.question.now h) hs =
+    ap (λ n. map (λ h. g.Q.ColumnFunction.outcome c.args.question.now h) (take n hs)) end
+    ∙ whole (λ h. g.Q.ColumnFunction.outcome c.args.question.now h) hs in
     c.loop-i.invariant.values
     ∙ ap (λ rs. laid_over (map (λ r. result_unwrap_or r c.args.missing) rs) c.args.out.now) all
 
@@ -48,6 +50,8 @@ pub returns-clause-none : goal.returns-clause-none
 returns-clause-none g c =
     let hs = c.args.indexes.now in
     let end : c.loop-i.i ≡ length hs = omega (arith, c.loop-i.auto.i-end, c.loop-i-test.false) in
-    let all : map (λ h. g.Q.ColumnFunction.outcome c.args.question.now h) (take c.loop-i.i hs) ≡ map (λ h. g.Q.ColumnFunction.outcome c.args.question.now h) hs =
-    ap (λ n. map (λ h. g.Q.ColumnFunction.outcome c.args.question.now h) (take n hs)) end ∙ whole (λ h. g.Q.ColumnFunction.outcome c.args.question.now h) hs in
+    let all : map (λ h. g.Q.ColumnFunction.outcome c.args.question.now h) (take c.loop-i.i hs)
+    ≡ map (λ h. g.Q.ColumnFunction.outcome c.args.question.now h) hs =
+    ap (λ n. map (λ h. g.Q.ColumnFunction.outcome c.args.question.now h) (take n hs)) end
+    ∙ whole (λ h. g.Q.ColumnFunction.outcome c.args.question.now h) hs in
     tells (c.loop-i.missed == 0) _ (c.loop-i.invariant.whole ∙ ap (λ rs. first_code rs == 0) all)

@@ -25,24 +25,31 @@ returns-in-Err-clause-place g c =
 pub loop-place-preserved : goal.loop-place-preserved
 loop-place-preserved g c =
     let rs = map (λ h. g.Q.ColumnFunction.outcome c.args.question.now h) (take c.loop-place.place c.args.indexes.now) in
-    let more : map (λ h. g.Q.ColumnFunction.outcome c.args.question.now h) (take (c.loop-place.place + 1) c.args.indexes.now) ≡ rs ++ c.ask.result ∷ [] =
-    up_to-next (λ h. g.Q.ColumnFunction.outcome c.args.question.now h) c.args.indexes.now c.loop-place.place c.ask.result c.loop-place-test.true c.ask.ensures in
+    let more : map (λ h. g.Q.ColumnFunction.outcome c.args.question.now h)
+    (take (c.loop-place.place + 1) c.args.indexes.now)
+    ≡ rs ++ c.ask.result ∷ [] =
+    up_to-next (λ h. g.Q.ColumnFunction.outcome c.args.question.now h) c.args.indexes.now c.loop-place.place
+    c.ask.result c.loop-place-test.true c.ask.ensures in
     rw (more, c.in_default.is) (code-ok rs c.in_default.field-0 c.loop-place.invariant)
 
 pub returns-clause-code : goal.returns-clause-code
 returns-clause-code g c =
     let hs = c.args.indexes.now in
     let end : c.loop-place.place ≡ length hs = omega (arith, c.loop-place.auto.place-end, c.loop-place-test.false) in
-    let all : map (λ h. g.Q.ColumnFunction.outcome c.args.question.now h) (take c.loop-place.place hs) ≡ map (λ h. g.Q.ColumnFunction.outcome c.args.question.now h) hs =
-    ap (λ n. map (λ h. g.Q.ColumnFunction.outcome c.args.question.now h) (take n hs)) end ∙ whole (λ h. g.Q.ColumnFunction.outcome c.args.question.now h) hs in
+    let all : map (λ h. g.Q.ColumnFunction.outcome c.args.question.now h) (take c.loop-place.place hs)
+    ≡ map (λ h. g.Q.ColumnFunction.outcome c.args.question.now h) hs =
+    ap (λ n. map (λ h. g.Q.ColumnFunction.outcome c.args.question.now h) (take n hs)) end
+    ∙ whole (λ h. g.Q.ColumnFunction.outcome c.args.question.now h) hs in
     sym (sym (ap first_code all) ∙ c.loop-place.invariant)
 
 pub returns-clause-place : goal.returns-clause-place
 returns-clause-place g c =
     let hs = c.args.indexes.now in
     let end : c.loop-place.place ≡ length hs = omega (arith, c.loop-place.auto.place-end, c.loop-place-test.false) in
-    let all : map (λ h. g.Q.ColumnFunction.outcome c.args.question.now h) (take c.loop-place.place hs) ≡ map (λ h. g.Q.ColumnFunction.outcome c.args.question.now h) hs =
-    ap (λ n. map (λ h. g.Q.ColumnFunction.outcome c.args.question.now h) (take n hs)) end ∙ whole (λ h. g.Q.ColumnFunction.outcome c.args.question.now h) hs in
+    let all : map (λ h. g.Q.ColumnFunction.outcome c.args.question.now h) (take c.loop-place.place hs)
+    ≡ map (λ h. g.Q.ColumnFunction.outcome c.args.question.now h) hs =
+    ap (λ n. map (λ h. g.Q.ColumnFunction.outcome c.args.question.now h) (take n hs)) end
+    ∙ whole (λ h. g.Q.ColumnFunction.outcome c.args.question.now h) hs in
     let none : first_code (map (λ h. g.Q.ColumnFunction.outcome c.args.question.now h) hs) ≡ 0 =
     sym (ap first_code all) ∙ c.loop-place.invariant in
     sym (place-none (map (λ h. g.Q.ColumnFunction.outcome c.args.question.now h) hs) none

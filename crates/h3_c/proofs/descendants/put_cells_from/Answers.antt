@@ -54,7 +54,8 @@ returns-then-i-out-clause-put g c all e before first long is =
     let room : length first ≡ length c.args.out.now = sym (ap length is ∙ length-laid_over (indexes before) first) in
     c.loop-cell.invariant.put before first long is
     ∙ sym (ap (λ l. laid_over (indexes (before ++ l)) first) split
-    ∙ put-full before c.loop-cell.yielded (c.in-Some.cell ∷ drop (length c.loop-cell.yielded + 1) all) first (omega (arith, long, room, same, c.loop-cell.invariant.count, c.if-i-out.true)))
+    ∙ put-full before c.loop-cell.yielded (c.in-Some.cell ∷ drop (length c.loop-cell.yielded + 1) all) first
+    (omega (arith, long, room, same, c.loop-cell.invariant.count, c.if-i-out.true)))
 
 pub returns-clause-end : goal.returns-clause-end
 returns-clause-end g c all e =

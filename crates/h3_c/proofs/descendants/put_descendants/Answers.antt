@@ -111,7 +111,8 @@ returns-in-None-put_two_levels-clause-end c =
     let whole : descendants c.args.cell r ≡ (below ks ++ descendants k r) ++ below rest =
     split r all ks rest k (descendants c.args.cell r) is list in
     let long : length (descendants c.args.cell r) ≡ length (below ks) + length (descendants k r) + length (below rest) =
-    ap length whole ∙ length-append (below ks ++ descendants k r) (below rest) ∙ ap (λ n. n + length (below rest)) (length-append (below ks) (descendants k r)) in
+    ap length whole ∙ length-append (below ks ++ descendants k r) (below rest)
+    ∙ ap (λ n. n + length (below rest)) (length-append (below ks) (descendants k r)) in
     let full = has_no_room (c.loop-above.end + length (descendants k r)) _ c.in-None-put_two_levels.ensures.end in
     let same : length c.loop-above.out ≡ length c.args.out.now = c.loop-above.auto.out in
     rw (is_more (c.args.place + length (descendants c.args.cell r)) (length c.args.out.now)
@@ -153,7 +154,9 @@ returns-in-None-put_two_levels-clause-put c before first size put =
     (c.loop-above.invariant.put before first size put)
     ∙ ap (λ l. laid_over (indexes l) first) (append_assoc before (below ks) (descendants k r))
     ∙ sym (ap (λ l. laid_over (indexes (before ++ l)) first) whole
-    ∙ put-full before (below ks ++ descendants k r) (below rest) first (omega (arith, length-append (below ks) (descendants k r), full, same, room, size, c.loop-above.invariant.count)))
+    ∙ put-full before (below ks ++ descendants k r) (below rest) first
+    (omega
+    (arith, length-append (below ks) (descendants k r), full, same, room, size, c.loop-above.invariant.count)))
 
 pub returns-clause-end : goal.returns-clause-end
 returns-clause-end c =

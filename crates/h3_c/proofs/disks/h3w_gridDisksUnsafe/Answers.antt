@@ -58,8 +58,11 @@ loop-i-preserved c =
           (sym c.loop-i.invariant.place) c.loop-i.invariant.put
           ∙ ap (λ l. laid_over (indexes l) c.args.out.now) (sym cells);
       walks = λ more.
-          let all = ap (λ l. whole_walks room (l ++ more)) (map-next (λ h. walk_items (grid_disk_unsafe table h k)) hs i c.loop-i-test.true)
-          ∙ ap (whole_walks room) (append_assoc (disks table (take i hs) k) (own ∷ []) more) ∙ c.loop-i.invariant.walks (own ∷ more) in
+          let all =
+          ap (λ l. whole_walks room (l ++ more))
+          (map-next (λ h. walk_items (grid_disk_unsafe table h k)) hs i c.loop-i-test.true)
+          ∙ ap (whole_walks room) (append_assoc (disks table (take i hs) k) (own ∷ []) more)
+          ∙ c.loop-i.invariant.walks (own ∷ more) in
           omega (arith, all, walks-whole own more (room - place) none, ap (λ n. whole_walks n more) left);
     }
 
@@ -75,8 +78,10 @@ returns-then-code-ne0-clause-code c =
     let same : length c.loop-i.out ≡ room = c.loop-i.auto.out in
     let code : items_code own (room - place) ≡ c.put_disk_of-code.result.0 =
     ap (λ n. items_code own (n - place)) (sym same) ∙ sym c.put_disk_of-code.ensures.code in
-    sym (ap (λ l. items_code l room) (flat-split (λ h. walk_items (grid_disk_unsafe table h k)) hs c.loop-i.i c.loop-i-test.true)
-    ∙ c.loop-i.invariant.code (own ++ rest) ∙ code-ended own rest (room - place) (λ z. c.if-code-ne0.true (sym code ∙ z)) ∙ code)
+    sym (ap (λ l. items_code l room)
+    (flat-split (λ h. walk_items (grid_disk_unsafe table h k)) hs c.loop-i.i c.loop-i-test.true)
+    ∙ c.loop-i.invariant.code (own ++ rest)
+    ∙ code-ended own rest (room - place) (λ z. c.if-code-ne0.true (sym code ∙ z)) ∙ code)
     ∙ ap (λ (z : ℤ). items_code (all_disks table hs z) room) (to_z-of_z w32 c.args.k (search rules))
 
 pub returns-then-code-ne0-clause-list : goal.returns-then-code-ne0-clause-list
@@ -93,9 +98,11 @@ returns-then-code-ne0-clause-list c =
     let code : items_code own (room - place) ≡ c.put_disk_of-code.result.0 =
     ap (λ n. items_code own (n - place)) (sym same) ∙ sym c.put_disk_of-code.ensures.code in
     c.put_disk_of-code.ensures.put (given before) c.args.out.now (sym c.loop-i.invariant.place) c.loop-i.invariant.put
-    ∙ sym (ap (λ l. laid_over (indexes (given l)) c.args.out.now) (flat-split (λ h. walk_items (grid_disk_unsafe table h k)) hs c.loop-i.i c.loop-i-test.true)
+    ∙ sym (ap (λ l. laid_over (indexes (given l)) c.args.out.now)
+    (flat-split (λ h. walk_items (grid_disk_unsafe table h k)) hs c.loop-i.i c.loop-i-test.true)
     ∙ ap (λ l. laid_over (indexes l) c.args.out.now) (c.loop-i.invariant.cells (own ++ rest))
-    ∙ put-ended own rest (given before) c.args.out.now (room - place) (λ z. c.if-code-ne0.true (sym code ∙ z)) (omega (arith, c.loop-i.invariant.place, c.loop-i.invariant.within)))
+    ∙ put-ended own rest (given before) c.args.out.now (room - place) (λ z. c.if-code-ne0.true (sym code ∙ z))
+    (omega (arith, c.loop-i.invariant.place, c.loop-i.invariant.within)))
     ∙ ap (λ (z : ℤ). laid_over (indexes (given (all_disks table hs z))) c.args.out.now)
     (to_z-of_z w32 c.args.k (search rules))
 

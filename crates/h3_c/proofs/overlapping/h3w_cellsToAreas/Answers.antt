@@ -45,7 +45,9 @@ returns-clause-code c =
     let room = length c.args.numbers.now in
     inr (c.fill_areas.ensures.code
     ∙ ap (λ l. lists_code l room) (sym (counts_same c.areas_are_lawful.ensures.in_any_order pairs c.of.result same hs))
-    ∙ sym (comes c.args.area_cells.now c.args.areas.now hs (length c.args.starts.now) c.in-Ok.given.items c.if-areas-area_cells.false c.if-starts-cells.false c.in-Ok.ensures.read (λ areas. lists_code (area_counts areas hs) room) 5 14))
+    ∙ sym (comes c.args.area_cells.now c.args.areas.now hs (length c.args.starts.now) c.in-Ok.given.items
+    c.if-areas-area_cells.false c.if-starts-cells.false c.in-Ok.ensures.read
+    (λ areas. lists_code (area_counts areas hs) room) 5 14))
 
 pub returns-clause-starts : goal.returns-clause-starts
 returns-clause-starts c = λ _.

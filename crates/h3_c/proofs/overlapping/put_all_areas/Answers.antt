@@ -36,7 +36,9 @@ loop-i-preserved c =
     c.areas_of_index-size.new.found c.areas_of_index-size.ensures.fewer c.areas_of_index-size.ensures.are
     ∙ length-areas areas h in
     let next : sizes_of (area_counts areas (take (i + 1) hs)) ≡ ns ++ size ∷ [] =
-    sizes-next (λ k. for_value (λ x. Ok (length (areas_of areas x))) (cell_from k)) hs i (for_value (λ x. Ok (length (areas_of areas x))) (cell_from h)) c.loop-i-test.true refl ∙ ap (λ n. ns ++ n ∷ []) (sym many) in
+    sizes-next (λ k. for_value (λ x. Ok (length (areas_of areas x))) (cell_from k)) hs i
+    (for_value (λ x. Ok (length (areas_of areas x))) (cell_from h)) c.loop-i-test.true refl
+    ∙ ap (λ n. ns ++ n ∷ []) (sym many) in
     let long : length ns ≡ i =
     length-sizes (λ k. for_value (λ x. Ok (length (areas_of areas x))) (cell_from k)) hs i
     (omega (arith, c.loop-i-test.true)) in
@@ -103,7 +105,10 @@ returns-then-size-end-clause-numbers c =
     c.put_numbers_from.ensures before c.args.numbers.now
     (length-all_areas areas (take c.loop-i.i hs) ∙ sym c.loop-i.invariant.end) c.loop-i.invariant.listed
     ∙ ap (λ l. laid_over (before ++ l) c.args.numbers.now) c.areas_of_index-size.ensures.are
-    ∙ areas-full areas hs c.args.numbers.now c.loop-i.i c.loop-i.end c.areas_of_index-size.result c.loop-i-test.true c.loop-i.invariant.end (counted areas (slice_index_or c.args.indexes.now c.loop-i.i 0) c.areas_of_index-size.result c.areas_of_index-size.new.found c.areas_of_index-size.ensures.fewer c.areas_of_index-size.ensures.are)
+    ∙ areas-full areas hs c.args.numbers.now c.loop-i.i c.loop-i.end c.areas_of_index-size.result c.loop-i-test.true
+    c.loop-i.invariant.end (counted areas (slice_index_or c.args.indexes.now c.loop-i.i 0)
+    c.areas_of_index-size.result c.areas_of_index-size.new.found c.areas_of_index-size.ensures.fewer
+    c.areas_of_index-size.ensures.are)
     (omega (arith, c.if-size-end.true, c.loop-i.invariant.within, c.are_few.ensures))
 
 pub returns-clause-starts : goal.returns-clause-starts

@@ -32,8 +32,10 @@ returns-in-None-clause-fits c =
     let k = c.index-cells-i.result in
     let before : List Address = uncompacted (take i cells) r in
     let whole = split cells i r k c.loop-i-test.true c.index-cells-i.is in
-    let long : length (uncompacted cells r) ≡ length before + length (descendants k r) + length (uncompacted (drop (suc i) cells) r) =
-    ap length whole ∙ length-append (before ++ descendants k r) (uncompacted (drop (suc i) cells) r) ∙ ap (λ n. n + length (uncompacted (drop (suc i) cells) r)) (length-append before (descendants k r)) in
+    let long : length (uncompacted cells r)
+    ≡ length before + length (descendants k r) + length (uncompacted (drop (suc i) cells) r) =
+    ap length whole ∙ length-append (before ++ descendants k r) (uncompacted (drop (suc i) cells) r)
+    ∙ ap (λ n. n + length (uncompacted (drop (suc i) cells) r)) (length-append before (descendants k r)) in
     let full = has_no_room (c.loop-i.place + length (descendants k r)) _ c.in-None.ensures.end in
     let same : length c.loop-i.out ≡ length c.args.out.now = c.loop-i.auto.out in
     sym (is_more (length (uncompacted cells r)) (length c.args.out.now)
@@ -51,4 +53,5 @@ returns-in-None-clause-put c =
     let same : length c.loop-i.out ≡ length c.args.out.now = c.loop-i.auto.out in
     c.in-None.ensures.put before c.args.out.now (sym c.loop-i.invariant.place) c.loop-i.invariant.put
     ∙ sym (ap (λ l. laid_over (indexes l) c.args.out.now) whole
-    ∙ indexes-full (before ++ descendants k r) (uncompacted (drop (suc i) cells) r) c.args.out.now (omega (arith, length-append before (descendants k r), full, same, c.loop-i.invariant.place)))
+    ∙ indexes-full (before ++ descendants k r) (uncompacted (drop (suc i) cells) r) c.args.out.now
+    (omega (arith, length-append before (descendants k r), full, same, c.loop-i.invariant.place)))

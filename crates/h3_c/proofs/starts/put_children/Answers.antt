@@ -80,8 +80,10 @@ returns-in-None-clause-fitting c =
     let full =
     has_no_room (c.loop-i.place + length own) _ (c.in-None.ensures ∙ placed (cell_to_children h res) c.loop-i.place
     (length c.loop-i.out) c.put_children_of-children.result c.put_children_of-children.ensures.end fits_before) in
-    sym (stopped (λ k. cell_to_children_size k res) hs c.loop-i.i c.loop-i.place (length own) (length c.args.out.now) c.loop-i-test.true
-    (c.loop-i.invariant.place ∙ length-children res (take c.loop-i.i hs)) c.loop-i.invariant.within (length-own h res) (omega (arith, full, same)))
+    sym (stopped (λ k. cell_to_children_size k res) hs c.loop-i.i c.loop-i.place (length own) (length c.args.out.now)
+    c.loop-i-test.true
+    (c.loop-i.invariant.place ∙ length-children res (take c.loop-i.i hs)) c.loop-i.invariant.within (length-own h res)
+    (omega (arith, full, same)))
     ∙ ap (λ (z : ℤ). fitting (length c.args.out.now) (sizes_of (child_sizes z hs)))
     (to_z-of_z w32 c.args.res (search rules))
 

@@ -28,8 +28,10 @@ loop-i-preserved g c =
     let ns = sizes_of rs in
     let more : map (λ h. g.Q.ColumnFunction.outcome c.args.question.now h) (take (i + 1) hs) ≡ rs ++ r ∷ [] =
     up_to-next (λ h. g.Q.ColumnFunction.outcome c.args.question.now h) hs i r c.loop-i-test.true c.ask-answer.ensures in
-    let next : sizes_of (map (λ h. g.Q.ColumnFunction.outcome c.args.question.now h) (take (i + 1) hs)) ≡ ns ++ size ∷ [] =
-    sizes-next (λ h. g.Q.ColumnFunction.outcome c.args.question.now h) hs i r c.loop-i-test.true c.ask-answer.ensures ∙ ap (λ n. ns ++ n ∷ []) (sym c.unwrap_or-size.ensures) in
+    let next : sizes_of (map (λ h. g.Q.ColumnFunction.outcome c.args.question.now h) (take (i + 1) hs))
+    ≡ ns ++ size ∷ [] =
+    sizes-next (λ h. g.Q.ColumnFunction.outcome c.args.question.now h) hs i r c.loop-i-test.true c.ask-answer.ensures
+    ∙ ap (λ n. ns ++ n ∷ []) (sym c.unwrap_or-size.ensures) in
     let long : length ns ≡ i =
     length-sizes (λ h. g.Q.ColumnFunction.outcome c.args.question.now h) hs i (omega (arith, c.loop-i-test.true)) in
     let sum : total (sizes_of (map (λ h. g.Q.ColumnFunction.outcome c.args.question.now h) (take (i + 1) hs)))

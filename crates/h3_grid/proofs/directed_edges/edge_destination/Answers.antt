@@ -8,12 +8,14 @@ use Rattle.h3_grid.proofs.directed_edges.edge_destination.Goals.{In-None, In-Som
 leads : (c : In-Some) → LeadsTo (link_of c.args.table.now) c.args.edge c.in-Some.cell
 leads c =
     leads_to (link_of c.args.table.now) c.args.edge c.edge_direction.result c.in-Some.cell c.edge_direction.ensures
-    (ap (λ a. neighbor (link_of c.args.table.now) a c.edge_direction.result) (sym c.origin.ensures.is) ∙ sym c.in-Some.ensures)
+    (ap (λ a. neighbor (link_of c.args.table.now) a c.edge_direction.result) (sym c.origin.ensures.is)
+    ∙ sym c.in-Some.ensures)
 
 nowhere : (c : In-None) → LeadsNowhere (link_of c.args.table.now) c.args.edge
 nowhere c =
     leads_nowhere (link_of c.args.table.now) c.args.edge c.edge_direction.result c.edge_direction.ensures
-    (ap (λ a. neighbor (link_of c.args.table.now) a c.edge_direction.result) (sym c.origin.ensures.is) ∙ sym c.in-None.ensures)
+    (ap (λ a. neighbor (link_of c.args.table.now) a c.edge_direction.result) (sym c.origin.ensures.is)
+    ∙ sym c.in-None.ensures)
 
 pub returns-in-Some-clause-is : goal.returns-in-Some-clause-is
 returns-in-Some-clause-is c = (leads c).is

@@ -5,7 +5,8 @@ pub returns-clause-found : goal.returns-clause-found
 returns-clause-found c = c.neighbors_are_lawful.ensures.found (link_of c.args.table.now) c.links_are_sound.ensures
 
 pub returns-clause-one_direction : goal.returns-clause-one_direction
-returns-clause-one_direction c = c.neighbors_are_lawful.ensures.one_direction (link_of c.args.table.now) c.links_are_sound.ensures
+returns-clause-one_direction c =
+    c.neighbors_are_lawful.ensures.one_direction (link_of c.args.table.now) c.links_are_sound.ensures
 
 pub returns-clause-differ : goal.returns-clause-differ
 returns-clause-differ c = c.neighbors_are_lawful.ensures.differ (link_of c.args.table.now) c.links_are_sound.ensures

@@ -7,7 +7,14 @@ steps : (c : goal.After-sums_are_lawful) → StepLawsHold
 steps c =
     let s = c.steps_are_lawful.ensures in
     let t = c.turns_add_up.ensures in
-    record { reach = s.states; reverse = s.reverse; close = s.triangles; turns = t.directions; six = t.six; opposites = t.opposite }
+    record {
+      reach = s.states;
+      reverse = s.reverse;
+      close = s.triangles;
+      turns = t.directions;
+      six = t.six;
+      opposites = t.opposite;
+    }
 
 sums : (c : goal.After-sums_are_lawful) → SumLaws
 sums c = let u = c.sums_are_lawful.ensures in record { exist = u.exist; unique = u.unique; turn = u.turn }
@@ -29,8 +36,10 @@ returns-clause-both c = λ link sound.
 
 pub returns-clause-differ : goal.returns-clause-differ
 returns-clause-differ c = λ link sound.
-    neighbors_differ (steps c) (sums c) link sound c.numbers_are_unique.ensures c.steps_are_lawful.ensures.differ c.steps_are_lawful.ensures.leave
+    neighbors_differ (steps c) (sums c) link sound c.numbers_are_unique.ensures c.steps_are_lawful.ensures.differ
+    c.steps_are_lawful.ensures.leave
 
 pub returns-clause-related : goal.returns-clause-related
 returns-clause-related c = λ link sound.
-    neighbors_found (steps c) (sums c) link sound c.numbers_are_unique.ensures c.steps_are_lawful.ensures.differ c.steps_are_lawful.ensures.leave
+    neighbors_found (steps c) (sums c) link sound c.numbers_are_unique.ensures c.steps_are_lawful.ensures.differ
+    c.steps_are_lawful.ensures.leave

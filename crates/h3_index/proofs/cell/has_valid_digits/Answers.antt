@@ -22,4 +22,6 @@ unfolding digits_in
 returns c =
     let r = c.args.resolution in
     let ds = digits_in c.args.raw in
-    rw (c.is_seven_after.ensures, c.leads_with_one.ensures, c.is_pentagon_base.ensures) (tests (list_all (λ d. nat_lt d 7) (take r ds)) (list_all (λ d. d == 7) (drop r ds)) (leading (take r ds) == 1) (is_pentagon_base c.args.base) (leading ds == 1) (digits_lead r c.args.raw c.requires))
+    rw (c.is_seven_after.ensures, c.leads_with_one.ensures, c.is_pentagon_base.ensures)
+    (tests (list_all (λ d. nat_lt d 7) (take r ds)) (list_all (λ d. d == 7) (drop r ds)) (leading (take r ds) == 1)
+    (is_pentagon_base c.args.base) (leading ds == 1) (digits_lead r c.args.raw c.requires))

@@ -12,14 +12,17 @@ pub pow-requires : goal.pow-requires
 pow-requires c = omega (arith, sevens_small c.from.result (omega (arith, c.in_ok-res.ensures.ok.2)))
 
 pub overflow_mul-result : goal.overflow_mul-result
-overflow_mul-result c = record { fits = omega (arith, sevens_small c.from.result (omega (arith, c.in_ok-res.ensures.ok.2))) }
+overflow_mul-result c =
+    record { fits = omega (arith, sevens_small c.from.result (omega (arith, c.in_ok-res.ensures.ok.2))) }
 
 pub overflow_add-result : goal.overflow_add-result
-overflow_add-result c = record { fits = omega (arith, sevens_small c.from.result (omega (arith, c.in_ok-res.ensures.ok.2))) }
+overflow_add-result c =
+    record { fits = omega (arith, sevens_small c.from.result (omega (arith, c.in_ok-res.ensures.ok.2))) }
 
 pub returns-clause-counted : goal.returns-clause-counted
 returns-clause-counted c =
-    let is : resolution_of c.args.res ≡ Some c.in_ok-res.res = rw (to_z-of_z w32 c.args.res (search rules)) at c.in_ok-res.ensures.ok.0 in
+    let is : resolution_of c.args.res ≡ Some c.in_ok-res.res =
+    rw (to_z-of_z w32 c.args.res (search rules)) at c.in_ok-res.ensures.ok.0 in
     let power : c.pow.result ≡ 7 ^ c.in_ok-res.res = c.pow.ensures ∙ ap (λ r. 7 ^ r) c.from.ensures in
     if_some _ c.in_ok-res.res _ is (rw power (length-cells_of c.in_ok-res.res))
 

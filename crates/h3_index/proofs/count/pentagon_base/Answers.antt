@@ -11,7 +11,13 @@ use Rattle.h3_index.proofs.count.pentagon_base.Goals as goal
 
 pub returns-clause-nth : goal.returns-clause-nth
 returns-clause-nth c =
-    let n_is : number_below 12 c.args.n ≡ Some c.in_ok-n.n = rw (to_z-of_z w32 c.args.n (search rules)) at (sym c.in_ok-n.ensures.is) in
-    let all = nth_from_yields_List c.nth.result c.nth.new.self c.from.result c.nth.ensures.ran (YieldsList-from_filter _ is_pentagon_base (YieldsList-from_range 0 122 122 (cc) refl) c.filter.ensures.closure (λ x r q k. search (rules, tests))) in
+    let n_is : number_below 12 c.args.n ≡ Some c.in_ok-n.n =
+    rw (to_z-of_z w32 c.args.n (search rules)) at (sym c.in_ok-n.ensures.is) in
+    let all =
+    nth_from_yields_List c.nth.result c.nth.new.self c.from.result c.nth.ensures.ran (YieldsList-from_filter _
+    is_pentagon_base (YieldsList-from_range 0 122 122 (cc) refl) c.filter.ensures.closure
+    (λ x r q k. search (rules, tests))) in
     let listed : filter is_pentagon_base (range_with_len 0 122) ≡ pentagon_bases = refl in
-    match_some _ c.in_ok-n.n _ _ n_is (sym (sym (option_map_id c.nth.result) ∙ all ∙ ap (slice_get (filter is_pentagon_base (range_with_len 0 122))) c.from.ensures ∙ ap (λ bs. slice_get bs c.in_ok-n.n) listed))
+    match_some _ c.in_ok-n.n _ _ n_is (sym (sym (option_map_id c.nth.result) ∙ all
+    ∙ ap (slice_get (filter is_pentagon_base (range_with_len 0 122))) c.from.ensures
+    ∙ ap (λ bs. slice_get bs c.in_ok-n.n) listed))

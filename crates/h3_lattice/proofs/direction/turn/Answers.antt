@@ -6,4 +6,5 @@ use Rattle.h3_lattice.proofs.direction.turn.Goals as goal
 pub returns-clause-product : goal.returns-clause-product
 returns-clause-product c =
     let all : c.loop-done._done ≡ c.args.n = omega arith in
-    ap unit_of c.loop-done.invariant ∙ ap (λ n. unit_of (turned n c.args.direction)) all ∙ unit_of-turned c.args.n c.args.direction
+    ap unit_of c.loop-done.invariant ∙ ap (λ n. unit_of (turned n c.args.direction)) all
+    ∙ unit_of-turned c.args.n c.args.direction

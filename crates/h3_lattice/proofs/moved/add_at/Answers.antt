@@ -9,9 +9,18 @@ use Rattle.h3_lattice.proofs.moved.add_at.Goals as goal
 pub loop-done-init : goal.loop-done-init
 loop-done-init c =
     let long : length c.args.cell.digits ≡ c.args.res - 0 = omega (arith, c.requires.res) in
-    let all : IsUnderway c.args.cell.digits c.args.direction (c.args.res - 0) c.args.direction c.args.cell.digits = rw long at (begins c.args.cell.digits c.args.direction) in
-    let first : c.args.res - 0 ≡ c.args.res = omega arith in
-    (refl, omega (arith, c.requires.res), c.resolution-resolution.ensures.valid, (c.args.direction, rw first (c.row_of-row.ensures ∙ ap (λ class. row_of class c.args.direction) c.at.ensures), all))
+    let all : IsUnderway c.args.cell.digits c.args.direction (c.args.res - 0) c.args.direction c.args.cell.digits =
+    rw long at (begins c.args.cell.digits c.args.direction) in
+    let first : c.args.res - 0 ≡ c.args.res = omega arith in (
+      refl,
+      omega (arith, c.requires.res),
+      c.resolution-resolution.ensures.valid,
+      (
+        c.args.direction,
+        rw first (c.row_of-row.ensures ∙ ap (λ class. row_of class c.args.direction) c.at.ensures),
+        all,
+      ),
+    )
 
 pub returns-then-carried-eq0 : goal.returns-then-carried-eq0
 returns-then-carried-eq0 c =
@@ -20,7 +29,10 @@ returns-then-carried-eq0 c =
     let d = h.3.0 in
     let s = c.sum_in-digit.ensures.sum (class_at r) d h.3.1 in
     let none = none_carried (class_at r) c.sum_in-digit.result.1 c.if-carried-eq0.true in
-    let sum = last_sum c.loop-done.moved.digits d (class_at r) (carried_to (class_at r) c.sum_in-digit.result.1) r c.digit.result c.sum_in-digit.result.0 h.2.digits_small (omega (arith, h.1)) (omega arith) refl c.digit.ensures s.small s.carry c.args.cell.digits c.args.direction h.3.2 none in
+    let sum =
+    last_sum c.loop-done.moved.digits d (class_at r) (carried_to (class_at r) c.sum_in-digit.result.1) r
+    c.digit.result c.sum_in-digit.result.0 h.2.digits_small (omega (arith, h.1)) (omega arith) refl
+    c.digit.ensures s.small s.carry c.args.cell.digits c.args.direction h.3.2 none in
     rw c.with_digit-moved.ensures.is (h.0, sum, rw c.with_digit-moved.ensures.is at c.with_digit-moved.ensures.valid)
 
 pub loop-done-preserved : goal.loop-done-preserved
@@ -34,8 +46,16 @@ loop-done-preserved c =
     let s = c.sum_in-digit.ensures.sum (class_at r) d h.3.1 in
     let k = some_carried (class_at r) c.sum_in-digit.result.1 s.is c.if-carried-eq0.false in
     let row = k.row_is ∙ ap (λ class. row_of class k.direction) (coarser_at r some) in
-    let sum = next_sum c.loop-done.moved.digits d (class_at r) (carried_to (class_at r) c.sum_in-digit.result.1) r c.digit.result c.sum_in-digit.result.0 h.2.digits_small (omega (arith, h.1)) some refl c.digit.ensures s.small s.carry c.args.cell.digits c.args.direction k.direction h.3.2 k.is in
-    rw (c.with_digit-moved.ensures.is, next) (h.0, length-set ms (r - 1) c.sum_in-digit.result.0 ∙ h.1, rw c.with_digit-moved.ensures.is at c.with_digit-moved.ensures.valid, (k.direction, row, sum))
+    let sum =
+    next_sum c.loop-done.moved.digits d (class_at r) (carried_to (class_at r) c.sum_in-digit.result.1) r
+    c.digit.result c.sum_in-digit.result.0 h.2.digits_small (omega (arith, h.1)) some refl c.digit.ensures
+    s.small s.carry c.args.cell.digits c.args.direction k.direction h.3.2 k.is in
+    rw (c.with_digit-moved.ensures.is, next) (
+      h.0,
+      length-set ms (r - 1) c.sum_in-digit.result.0 ∙ h.1,
+      rw c.with_digit-moved.ensures.is at c.with_digit-moved.ensures.valid,
+      (k.direction, row, sum),
+    )
 
 pub returns : goal.returns
 returns c =

@@ -8,4 +8,5 @@ use Rattle.h3_lattice.proofs.moved.add_at.Given as goal
 abbrev pub invariant-loop-done : goal.invariant-loop-done
 invariant-loop-done l =
     (l.moved.base ≡ l.fn.cell.base) × (length l.moved.digits ≡ l.res) × IsCell l.moved ×
-    ((d : Direction) × (l.row ≡ row_of (class_at (l.res - l.done)) d) × IsUnderway l.fn.cell.digits l.fn.direction (l.res - l.done) d l.moved.digits)
+    ((d : Direction) × (l.row ≡ row_of (class_at (l.res - l.done)) d)
+    × IsUnderway l.fn.cell.digits l.fn.direction (l.res - l.done) d l.moved.digits)

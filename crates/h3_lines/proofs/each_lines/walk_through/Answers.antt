@@ -23,7 +23,9 @@ returns-in_err-item-clause-err g c =
     split_at g.I.Iterator.next_gives e _ c.into_iter-item-iterator.ensures.into_iter_gives _ _ so_far _ _
     c.in-Some.ensures.steps in
     let later = drop (length c.loop-item.yielded + 1) all in
-    ap whole_items split ∙ c.loop-item.invariant.refused (c.in-Some.item ∷ later) c.in_err-item.field-0.0 (ap (λ x. whole_items (x ∷ later)) c.in_err-item.was))
+    ap whole_items split
+    ∙ c.loop-item.invariant.refused (c.in-Some.item ∷ later) c.in_err-item.field-0.0
+    (ap (λ x. whole_items (x ∷ later)) c.in_err-item.was))
 
 pub returns-clause-ok : goal.returns-clause-ok
 returns-clause-ok g c all e =

@@ -17,7 +17,11 @@ loop-number-preserved g c =
     let line : List ℕ = text c.in-Some.number.now ++ 10 ∷ [] in
     let more = numbered_lines text c.in-Some.more.now in
     let own : Moves g.W.Sink.taken g.W.Sink.has_failed (before ++ line) after c.loop-number.out c.put_text.new.out =
-    subst (λ t. Moves g.W.Sink.taken g.W.Sink.has_failed (before ++ (t ++ 10 ∷ [])) after c.loop-number.out c.put_text.new.out) c.text.ensures.text c.in_ok-last.ensures.ok in
+    subst
+    (λ t.
+    Moves g.W.Sink.taken g.W.Sink.has_failed (before ++ (t ++ 10 ∷ [])) after c.loop-number.out
+    c.put_text.new.out)
+    c.text.ensures.text c.in_ok-last.ensures.ok in
     let first : numbered_lines text c.loop-number.rest.now ≡ line ++ more =
     ap (numbered_lines text) c.in-Some.ensures.cases.0 in
     record {
@@ -41,12 +45,19 @@ returns-in_err-last-clause-err g c =
     let line : List ℕ = text c.in-Some.number.now ++ 10 ∷ [] in
     let more = numbered_lines text c.in-Some.more.now in
     let out = sink_use g.W.Sink.taken g.W.Sink.has_failed c.args.out.now c.put_text.new.out in
-    let own : FailsPush (before ++ line) (sink_use g.W.Sink.taken g.W.Sink.has_failed c.loop-number.out c.put_text.new.out) =
-    subst (λ t. FailsPush (before ++ (t ++ 10 ∷ [])) (sink_use g.W.Sink.taken g.W.Sink.has_failed c.loop-number.out c.put_text.new.out)) c.text.ensures.text c.in_err-last.ensures.err in
+    let own : FailsPush (before ++ line)
+    (sink_use g.W.Sink.taken g.W.Sink.has_failed c.loop-number.out c.put_text.new.out) =
+    subst
+    (λ t.
+    FailsPush (before ++ (t ++ 10 ∷ []))
+    (sink_use g.W.Sink.taken g.W.Sink.has_failed c.loop-number.out c.put_text.new.out))
+    c.text.ensures.text c.in_err-last.ensures.err in
     let first : numbered_lines text c.loop-number.rest.now ≡ line ++ more =
     ap (numbered_lines text) c.in-Some.ensures.cases.0 in
-    rw p.1 (subst (λ l. FailsPush l out) (append_assoc (held ++ done) line more ∙ append_assoc held done (line ++ more) ∙ ap (λ l. held ++ l) (sym (split ∙ ap (λ l. done ++ l) first)))
-    (push_more ((held ++ done) ++ line) more out (push_then g.W.Sink.taken g.W.Sink.has_failed (held ++ done) _ line _ _ _ moves own)))
+    rw p.1 (subst (λ l. FailsPush l out) (append_assoc (held ++ done) line more ∙ append_assoc held done (line ++ more)
+    ∙ ap (λ l. held ++ l) (sym (split ∙ ap (λ l. done ++ l) first)))
+    (push_more ((held ++ done) ++ line) more out
+    (push_then g.W.Sink.taken g.W.Sink.has_failed (held ++ done) _ line _ _ _ moves own)))
 
 pub returns-clause-ok : goal.returns-clause-ok
 returns-clause-ok g c =

@@ -21,7 +21,9 @@ returns-in_err-take_index-clause-err g c =
     let indexes = c.args.indexes.now in
     let whole : indexes ≡ take i indexes ++ get_or indexes i 0 ∷ drop (suc i) indexes =
     split_at indexes i 0 (omega (arith, c.loop-i-test.true)) in
-    rw (p.1, p.2) (λ lines all later. together_refused g.J.JobContract.taken g.J.JobContract.refused g.met.J.JobContract.refused_then (take i indexes) (get_or indexes i 0) (drop (suc i) indexes) c.loop-i.invariant.took
+    rw (p.1, p.2) (λ lines all later.
+    together_refused g.J.JobContract.taken g.J.JobContract.refused g.met.J.JobContract.refused_then (take i indexes)
+    (get_or indexes i 0) (drop (suc i) indexes) c.loop-i.invariant.took
     c.in_err-take_index.ensures.err lines (subst (λ is. ParseAll lines is) whole all) later)
 
 pub loop-i-preserved : goal.loop-i-preserved

@@ -18,7 +18,10 @@ loop-index-preserved g c =
     let one : g.J.JobContract.count c.take_index.new.self ≤ g.J.JobContract.count c.loop-index.job + 1 =
     c.in_default-take_index.ensures.counted in
     record {
-      goes = λ q. goes_then q g.J.JobContract.taken g.met.J.JobContract.taken_then (c.loop-index.invariant.goes q) (goes_plain g.J.JobContract.taken q c.loop-index.left.now c.in-Some.after.now c.in-Some.index c.in-Some.ensures c.in_default-take_index.ensures.ok);
+      goes = λ q.
+          goes_then q g.J.JobContract.taken g.met.J.JobContract.taken_then (c.loop-index.invariant.goes q)
+          (goes_plain g.J.JobContract.taken q c.loop-index.left.now c.in-Some.after.now c.in-Some.index
+          c.in-Some.ensures c.in_default-take_index.ensures.ok);
       same = λ all. absurd (omega (arith, all, less, c.loop-index.invariant.fewer));
       fewer = omega (arith, less, c.loop-index.invariant.fewer);
       counted = omega (arith, less, one, c.loop-index.invariant.counted);
@@ -26,8 +29,10 @@ loop-index-preserved g c =
 
 pub returns-in-Err-clause-err : goal.returns-in-Err-clause-err
 returns-in-Err-clause-err g c q rest =
-    rw (c.at.ensures, c.line.ensures) (goes_refused q g.J.JobContract.taken g.J.JobContract.refused g.met.J.JobContract.refused_then rest (c.loop-index.invariant.goes q)
-    (refused_plain g.J.JobContract.refused q c.loop-index.left.now c.in-Some.after.now rest c.in-Some.index c.in-Some.ensures c.in-Err.ensures.err))
+    rw (c.at.ensures, c.line.ensures) (goes_refused q g.J.JobContract.taken g.J.JobContract.refused
+    g.met.J.JobContract.refused_then rest (c.loop-index.invariant.goes q)
+    (refused_plain g.J.JobContract.refused q c.loop-index.left.now c.in-Some.after.now rest c.in-Some.index
+    c.in-Some.ensures c.in-Err.ensures.err))
 
 pub returns-clause-some : goal.returns-clause-some
 returns-clause-some g c q =

@@ -18,7 +18,10 @@ loop-preserved g c =
     let one : g.J.JobContract.count c.take_index.new.self ≤ g.J.JobContract.count c.loop.job + 1 =
     c.in_default-take_index.ensures.counted in
     record {
-      goes = λ q. goes_then q g.J.JobContract.taken g.met.J.JobContract.taken_then (c.loop.invariant.goes q) (goes_plain g.J.JobContract.taken q c.loop.left.now c.in-Some.after.now c.in-Some.index c.in-Some.ensures c.in_default-take_index.ensures.ok);
+      goes = λ q.
+          goes_then q g.J.JobContract.taken g.met.J.JobContract.taken_then (c.loop.invariant.goes q)
+          (goes_plain g.J.JobContract.taken q c.loop.left.now c.in-Some.after.now c.in-Some.index c.in-Some.ensures
+          c.in_default-take_index.ensures.ok);
       same = λ all. absurd (omega (arith, all, less, c.loop.invariant.fewer));
       fewer = omega (arith, less, c.loop.invariant.fewer);
       counted = omega (arith, less, one, c.loop.invariant.counted);
@@ -26,5 +29,7 @@ loop-preserved g c =
 
 pub returns-in-Err-clause-err : goal.returns-in-Err-clause-err
 returns-in-Err-clause-err g c q rest =
-    rw (c.at.ensures, c.line.ensures) (goes_refused q g.J.JobContract.taken g.J.JobContract.refused g.met.J.JobContract.refused_then rest (c.loop.invariant.goes q)
-    (refused_plain g.J.JobContract.refused q c.loop.left.now c.in-Some.after.now rest c.in-Some.index c.in-Some.ensures c.in-Err.ensures.err))
+    rw (c.at.ensures, c.line.ensures) (goes_refused q g.J.JobContract.taken g.J.JobContract.refused
+    g.met.J.JobContract.refused_then rest (c.loop.invariant.goes q)
+    (refused_plain g.J.JobContract.refused q c.loop.left.now c.in-Some.after.now rest c.in-Some.index c.in-Some.ensures
+    c.in-Err.ensures.err))

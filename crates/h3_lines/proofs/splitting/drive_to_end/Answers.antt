@@ -59,7 +59,9 @@ returns-then-count-eq0-clause-ok g c =
     omega (arith, ap length c.as_mut_slice-page.ensures.value, c.lengthen.ensures.long) in
     let full : length part ≡ size = part_length s.held size page part c.read.auto.page fits in
     let some : 0 < (reads_allowed c.loop-count.reader) = omega (arith, c.in-Ok.ensures.counted) in
-    let kept = page_kept s.held c.lengthen.new.page.len _ _ (omega (arith, fits, c.as_mut_slice-page.ensures.len)) (omega (arith, fits, length-take {A = ℕ}))
+    let kept =
+    page_kept s.held c.lengthen.new.page.len _ _ (omega (arith, fits, c.as_mut_slice-page.ensures.len))
+    (omega (arith, fits, length-take {A = ℕ}))
     ∙ take-put_mid_below s.held (s.held + size - s.held) page part s.held (omega arith) (omega (arith, fits)) in
     subst (λ l. TakesEnded c.args.quotes g.J.JobContract.longest g.J.JobContract.taken c.args.job.now c.loop-count.job l
     s.inside (g.R.Source.left (source_of c.args.reader.now)) (g.R.Source.left (source_of c.read.new.self))

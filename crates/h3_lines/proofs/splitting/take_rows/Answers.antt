@@ -14,7 +14,8 @@ loop-left-preserved g c =
     let bytes = c.in_ok-left.left.now in
     let cuts = c.in-Ok.ensures.cut in
     let both = g.met.J.JobContract.taken_then in
-    let first = goes_then c.args.quotes g.J.JobContract.taken both c.loop-left.invariant.goes c.in_ok-left.ensures.ok in record {
+    let first = goes_then c.args.quotes g.J.JobContract.taken both c.loop-left.invariant.goes c.in_ok-left.ensures.ok in
+    record {
       goes =
           goes_then c.args.quotes g.J.JobContract.taken both first
           (goes_cut c.args.quotes g.J.JobContract.taken bytes c.in-Ok.row.now c.in-Ok.after.now cuts
@@ -41,8 +42,11 @@ returns-in_err-take-in-Ok-clause-err g c =
     let first =
     goes_then c.args.quotes g.J.JobContract.taken g.met.J.JobContract.taken_then c.loop-left.invariant.goes
     c.in_ok-left.ensures.ok in
-    rw (p.1, p.2) (λ rest. goes_refused c.args.quotes g.J.JobContract.taken g.J.JobContract.refused g.met.J.JobContract.refused_then rest first
-    (refused_cut c.args.quotes g.J.JobContract.refused c.in_ok-left.left.now c.in-Ok.row.now c.in-Ok.after.now rest c.in-Ok.ensures.cut c.in_err-take-in-Ok.ensures.err))
+    rw (p.1, p.2) (λ rest.
+    goes_refused c.args.quotes g.J.JobContract.taken g.J.JobContract.refused g.met.J.JobContract.refused_then rest
+    first
+    (refused_cut c.args.quotes g.J.JobContract.refused c.in_ok-left.left.now c.in-Ok.row.now c.in-Ok.after.now rest
+    c.in-Ok.ensures.cut c.in_err-take-in-Ok.ensures.err))
 
 pub returns-in-Err-clause-ok : goal.returns-in-Err-clause-ok
 returns-in-Err-clause-ok g c =

@@ -56,7 +56,9 @@ returns-in_err-last-clause-err g c =
     ∙ flat_map-append g.L.Line.line_of c.loop-item.yielded
     (c.in-Some.item ∷ drop (length c.loop-item.yielded + 1) all) in
     subst (λ l. FailsPush l out) (append_assoc held done rest ∙ ap (λ l. held ++ l) (sym text))
-    (push_then g.W.Sink.taken g.W.Sink.has_failed (held ++ done) _ rest _ _ _ c.loop-item.invariant.moves (push_more _ rest (sink_use g.W.Sink.taken g.W.Sink.has_failed c.loop-item.out c.make_room.new.out) c.in_err-last.ensures.err)))
+    (push_then g.W.Sink.taken g.W.Sink.has_failed (held ++ done) _ rest _ _ _ c.loop-item.invariant.moves
+    (push_more _ rest (sink_use g.W.Sink.taken g.W.Sink.has_failed c.loop-item.out c.make_room.new.out)
+    c.in_err-last.ensures.err)))
 
 pub returns-clause-ok : goal.returns-clause-ok
 returns-clause-ok g c all e =

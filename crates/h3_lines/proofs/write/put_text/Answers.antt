@@ -47,8 +47,14 @@ returns-clause-ok g c =
     let text = c.args.text.now in
     let held = take c.args.end c.args.block.now in
     let line : List ℕ = text ++ 10 ∷ [] in
-    let own : Moves g.W.Sink.taken g.W.Sink.has_failed line (take c.put_ended-2.result c.put_ended-2.new.block) c.write_all.new.out c.write_all-2.new.out =
-    record { part = text; split = ap (λ l. text ++ l) (sym c.put_ended-2.ensures.line); grown = c.in_ok-write_all-2.ensures.written; sound = c.in_ok-write_all-2.ensures.ok } in
+    let own : Moves g.W.Sink.taken g.W.Sink.has_failed line (take c.put_ended-2.result c.put_ended-2.new.block)
+    c.write_all.new.out c.write_all-2.new.out =
+    record {
+      part = text;
+      split = ap (λ l. text ++ l) (sym c.put_ended-2.ensures.line);
+      grown = c.in_ok-write_all-2.ensures.written;
+      sound = c.in_ok-write_all-2.ensures.ok;
+    } in
     moves_then g.W.Sink.taken g.W.Sink.has_failed held [] line _ _ _ _
     (moves_all g.W.Sink.taken g.W.Sink.has_failed held _ _ c.in_ok-write_all.ensures.written
     c.in_ok-write_all.ensures.ok) own

@@ -62,7 +62,8 @@ returns-in_err-end g c =
     push_more (done ++ own) later out (push_then g.W.Sink.taken g.W.Sink.has_failed done _ own _ _ _
     c.loop-cell.invariant.moves (c.in_err-end.ensures.err gives.all gives.yields)) in
     let whole : (done ++ own) ++ later ≡ flat_map text cells =
-    ap (λ l. (done ++ l) ++ later) (sym lines) ∙ sym (about_one text cells c.loop-cell.cell-index c.cell-item.result c.loop-cell-test.true c.cell-item.is) in
+    ap (λ l. (done ++ l) ++ later) (sym lines)
+    ∙ sym (about_one text cells c.loop-cell.cell-index c.cell-item.result c.loop-cell-test.true c.cell-item.is) in
     rw (p.1, p.2) (push_written (flat_map text cells) out (subst (λ l. FailsPush l out) whole fails))
 
 pub returns : goal.returns

@@ -31,7 +31,8 @@ returns-in_err-end-in-Ok g c all e =
     c.in-Some.ensures.steps in
     let p = err_from_is_err_and c.from_residual.result c.from_residual.ensures.1 in
     let out = sink_use g.W.Sink.taken g.W.Sink.has_failed c.loop-item.out c.make_room.new.out in
-    rw (p.1, p.2) (held_ends (walked g.L.Line.line_of) g.W.Sink.taken g.W.Sink.has_failed c.args.out.now c.loop-item.out c.make_room.new.out c.loop-item.invariant.held all _ split c.loop-item.invariant.same _
+    rw (p.1, p.2) (held_ends (walked g.L.Line.line_of) g.W.Sink.taken g.W.Sink.has_failed c.args.out.now c.loop-item.out
+    c.make_room.new.out c.loop-item.invariant.held all _ split c.loop-item.invariant.same _
     (begins_part _ _ out c.in_err-end-in-Ok.ensures.err))
 
 pub returns-in-Err : goal.returns-in-Err

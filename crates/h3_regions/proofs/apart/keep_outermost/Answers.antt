@@ -43,10 +43,18 @@ loop-i-preserved c =
     let i = c.loop-i.invariant in
     let lt : c.loop-i.i - 1 < length c.loop-i.pairs = omega (arith, i.low, i.high, i.size, c.loop-i-test.true) in
     subst (λ l. IsKeepingPairs c.args.pairs.now l (c.loop-i.i - 1) (c.loop-i.top - 1)) (sym c.swap.ensures.after)
-    (kept c.cells_form_trees.ensures c.cells_form_intervals.ensures c.args.pairs.now c.requires.valid c.requires.in_order c.loop-i.pairs (c.loop-i.i - 1) c.loop-i.top inv c.index-pairs-i.result lt c.index-pairs-i.is
+    (kept c.cells_form_trees.ensures c.cells_form_intervals.ensures c.args.pairs.now c.requires.valid
+    c.requires.in_order c.loop-i.pairs (c.loop-i.i - 1) c.loop-i.top inv c.index-pairs-i.result lt
+    c.index-pairs-i.is
     (elim c.else-top-pairs.branch [
       | else-top-pairs-via-then-top-pairs+else-is_below w ↦
-          inr (w.if-top-pairs.true, not_above c.cells_form_trees.ensures c.cells_form_intervals.ensures c.args.pairs.now c.requires.valid c.requires.in_order c.loop-i.pairs (c.loop-i.i - 1) c.loop-i.top inv c.index-pairs-i.result lt c.index-pairs-i.is w.if-top-pairs.true w.index-pairs-top.result (λ over. both_ways w.is_below.result w.if-is_below.false (w.is_below.ensures.1 over)))
+          inr (
+            w.if-top-pairs.true,
+            not_above c.cells_form_trees.ensures c.cells_form_intervals.ensures c.args.pairs.now c.requires.valid
+                c.requires.in_order c.loop-i.pairs (c.loop-i.i - 1) c.loop-i.top inv c.index-pairs-i.result lt
+                c.index-pairs-i.is w.if-top-pairs.true w.index-pairs-top.result
+                (λ over. both_ways w.is_below.result w.if-is_below.false (w.is_below.ensures.1 over)),
+          )
       | else-top-pairs-via-else-top-pairs w ↦ inl (omega (arith, w.if-top-pairs.false, i.high, i.size))
     ]))
 

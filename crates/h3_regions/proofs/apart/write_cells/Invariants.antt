@@ -4,4 +4,5 @@ use Rattle.h3_regions.proofs.apart.write_cells.Given as goal
 
 abbrev pub invariant-loop-i : goal.invariant-loop-i
 invariant-loop-i l =
-    (length l.cells ≡ length l.pairs) × ((k : ℕ) (d : Address) (e : Address × ℕ) → k < l.i → get_or l.cells k d ≡ (get_or l.pairs k e).0)
+    (length l.cells ≡ length l.pairs)
+    × ((k : ℕ) (d : Address) (e : Address × ℕ) → k < l.i → get_or l.cells k d ≡ (get_or l.pairs k e).0)

@@ -31,10 +31,16 @@ loop-cell-preserved c =
           small_number c.args.areas.now
           (length c.args.counts.now) c.cell-item.result w.in-Some.area c.requires w.in-Some.ensures.lies in
           rw (w.counts-is, w.none-is)
-          (counted c.coverages_decide_lists.ensures.ancestors c.args.areas.now c.args.cells.now (length c.args.counts.now) c.loop-cell.counts c.loop-cell.none c.loop-cell.cell-index c.cell-item.result c.loop-cell-test.true c.cell-item.is c.loop-cell.invariant w.in-Some.area small w.in-Some.ensures.lies (λ m h. let e : Some w.in-Some.area ≡ Some m = w.in-Some.ensures.one m h in cc))
+          (counted c.coverages_decide_lists.ensures.ancestors c.args.areas.now c.args.cells.now
+          (length c.args.counts.now) c.loop-cell.counts c.loop-cell.none c.loop-cell.cell-index c.cell-item.result
+          c.loop-cell-test.true c.cell-item.is c.loop-cell.invariant w.in-Some.area small w.in-Some.ensures.lies
+          (λ m h. let e : Some w.in-Some.area ≡ Some m = w.in-Some.ensures.one m h in cc))
       | in-None w ↦
           rw (w.counts-is, w.none-is)
-          (uncounted c.coverages_decide_lists.ensures.ancestors c.args.areas.now c.args.cells.now (length c.args.counts.now) c.loop-cell.counts c.loop-cell.none c.loop-cell.cell-index c.cell-item.result c.loop-cell-test.true c.cell-item.is c.loop-cell.invariant (λ m h. let e : None ≡ Some m = w.in-None.ensures.one m h in cc))
+          (uncounted c.coverages_decide_lists.ensures.ancestors c.args.areas.now c.args.cells.now
+          (length c.args.counts.now) c.loop-cell.counts c.loop-cell.none c.loop-cell.cell-index c.cell-item.result
+          c.loop-cell-test.true c.cell-item.is c.loop-cell.invariant
+          (λ m h. let e : None ≡ Some m = w.in-None.ensures.one m h in cc))
     ]
 
 pub returns-clause-counts : goal.returns-clause-counts

@@ -15,8 +15,11 @@ loop-cell-init c = (
 
 pub overflow_add-none : goal.overflow_add-none
 overflow_add-none c =
-    omega
-    (arith, few c.args.areas.now c.args.cells.now (length c.args.counts.now) c.loop-cell.counts c.loop-cell.none c.loop-cell.cell-index c.loop-cell-test.true c.loop-cell.invariant.1)
+    omega (
+      arith,
+      few c.args.areas.now c.args.cells.now (length c.args.counts.now) c.loop-cell.counts c.loop-cell.none
+          c.loop-cell.cell-index c.loop-cell-test.true c.loop-cell.invariant.1,
+    )
 
 pub add_each-requires-clause-small : goal.add_each-requires-clause-small
 add_each-requires-clause-small c = λ k d lt.
@@ -45,12 +48,20 @@ loop-cell-preserved c =
       elim c.if-found-eq0.branch [
         | then-found-eq0 w ↦
             rw w.none-is
-            (none_next c.args.areas.now c.args.cells.now (length c.args.counts.now) c.loop-cell.counts c.loop-cell.none c.loop-cell.cell-index c.loop-cell-test.true c.loop-cell.invariant.1 c.coverages_decide_lists.ensures.ancestors c.cell-item.result c.cell-item.is list c.areas_of-found.ensures.are c.add_each.new.counts c.add_each.auto.counts c.add_each.ensures.more c.add_each.ensures.same (omega (arith, size, w.if-found-eq0.true)))
+            (none_next c.args.areas.now c.args.cells.now (length c.args.counts.now) c.loop-cell.counts c.loop-cell.none
+            c.loop-cell.cell-index c.loop-cell-test.true c.loop-cell.invariant.1
+            c.coverages_decide_lists.ensures.ancestors c.cell-item.result c.cell-item.is list
+            c.areas_of-found.ensures.are c.add_each.new.counts c.add_each.auto.counts c.add_each.ensures.more
+            c.add_each.ensures.same (omega (arith, size, w.if-found-eq0.true)))
         | else-found-eq0 w ↦
             let some : 0 < length (take c.areas_of-found.result c.areas_of-found.new.numbers) =
             omega (arith, size, w.if-found-eq0.false, c.areas_of-found.ensures.fewer) in
             rw w.none-is
-            (some_next c.args.areas.now c.args.cells.now (length c.args.counts.now) c.loop-cell.counts c.loop-cell.none c.loop-cell.cell-index c.loop-cell-test.true c.loop-cell.invariant.1 c.coverages_decide_lists.ensures.ancestors c.cell-item.result c.cell-item.is list c.areas_of-found.ensures.are c.add_each.new.counts c.add_each.auto.counts c.add_each.ensures.more c.add_each.ensures.same some)
+            (some_next c.args.areas.now c.args.cells.now (length c.args.counts.now) c.loop-cell.counts c.loop-cell.none
+            c.loop-cell.cell-index c.loop-cell-test.true c.loop-cell.invariant.1
+            c.coverages_decide_lists.ensures.ancestors c.cell-item.result c.cell-item.is list
+            c.areas_of-found.ensures.are c.add_each.new.counts c.add_each.auto.counts c.add_each.ensures.more
+            c.add_each.ensures.same some)
       ],
     )
 

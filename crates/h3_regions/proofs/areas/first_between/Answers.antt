@@ -10,7 +10,9 @@ loop-size-preserved c =
     let (low, high, before, after) = c.loop-size.invariant in
     let less = nat_lt (number_of c.index-pairs-first.result.0) c.args.number in
     let passed : c.from-passed.result ≡ from_bool less =
-    c.from-passed.ensures ∙ ap (λ r. from_bool (nat_lt r c.args.number)) (c.raw.ensures.number ∙ sym (ap (λ p. number_of p.0) c.index-pairs-first.is)) in
+    c.from-passed.ensures
+    ∙ ap (λ r. from_bool (nat_lt r c.args.number))
+    (c.raw.ensures.number ∙ sym (ap (λ p. number_of p.0) c.index-pairs-first.is)) in
     let halves : get_or (0 ∷ 1 ∷ []) c.from-passed.result 0 ≡ from_bool less =
     ap (λ n. get_or (0 ∷ 1 ∷ []) n 0) passed ∙ half_at less in
     let h =

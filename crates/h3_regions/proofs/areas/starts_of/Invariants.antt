@@ -6,4 +6,5 @@ use Rattle.h3_regions.proofs.areas.starts_of.Given as goal
 
 abbrev pub invariant-loop-r : goal.invariant-loop-r
 invariant-loop-r l =
-    (length l.starts ≡ 17) × (l.place ≤ length l.pairs) × AllWithin (λ p. resolution p.0 < l.r) l.pairs 0 l.place × AreStartsBelow l.pairs l.starts l.r
+    (length l.starts ≡ 17) × (l.place ≤ length l.pairs) × AllWithin (λ p. resolution p.0 < l.r) l.pairs 0 l.place
+    × AreStartsBelow l.pairs l.starts l.r

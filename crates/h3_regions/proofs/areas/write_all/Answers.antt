@@ -10,10 +10,13 @@ loop-r-init c =
 pub loop-r-preserved : goal.loop-r-preserved
 loop-r-preserved c = elim c.if-from-to.branch [
   | then-from-to w ↦ rw (w.numbers-is, w.written-is) (rw c.from-in-loop-r.ensures at w.write_at-written.ensures)
-  | else-from-to w ↦ rw (w.numbers-is, w.written-is) (none_between c.args.pairs.now c.args.cell c.loop-r.r (get_or c.args.starts.now c.loop-r.r 0)
+  | else-from-to w ↦
+      rw (w.numbers-is, w.written-is)
+      (none_between c.args.pairs.now c.args.cell c.loop-r.r (get_or c.args.starts.now c.loop-r.r 0)
       (get_or c.args.starts.now (c.loop-r.r + 1) 0) c.loop-r.written c.loop-r.numbers
       (rw (c.from.ensures, c.from-in-loop-r.ensures) at w.if-from-to.false)
-      (c.requires.starts (c.loop-r.r + 1) 0 (omega (arith, c.loop-r-test.true, c.resolution-r-end.ensures.number, c.requires.valid.coarse)))
+      (c.requires.starts (c.loop-r.r + 1) 0
+      (omega (arith, c.loop-r-test.true, c.resolution-r-end.ensures.number, c.requires.valid.coarse)))
       c.loop-r.invariant)
 ]
 

@@ -17,8 +17,10 @@ returns-in-Some-clause-one c =
 pub returns-in-Some-clause-next : goal.returns-in-Some-clause-next
 returns-in-Some-clause-next c =
     let found = rw c.cells.ensures.is at c.in-Some.ensures.found in
-    one_counted c.coverages_decide_lists.ensures.ancestors c.args.zones.now c.args.counts.now c.args.others c.args.cell c.in-Some.i found.0 found.1 (rw c.cells.ensures.is at c.in-Some.ensures.one)
+    one_counted c.coverages_decide_lists.ensures.ancestors c.args.zones.now c.args.counts.now c.args.others c.args.cell
+    c.in-Some.i found.0 found.1 (rw c.cells.ensures.is at c.in-Some.ensures.one)
 
 pub returns-in-None-clause-next : goal.returns-in-None-clause-next
 returns-in-None-clause-next c =
-    one_uncounted c.coverages_decide_lists.ensures.ancestors c.args.zones.now c.args.counts.now c.args.others c.args.cell (rw c.cells.ensures.is at c.in-None.ensures.one)
+    one_uncounted c.coverages_decide_lists.ensures.ancestors c.args.zones.now c.args.counts.now c.args.others
+    c.args.cell (rw c.cells.ensures.is at c.in-None.ensures.one)

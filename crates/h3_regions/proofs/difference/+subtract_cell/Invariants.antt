@@ -8,4 +8,5 @@ abbrev pub decreases-subtract_cell : goal.decreases-subtract_cell
 decreases-subtract_cell l = 15 - resolution l.cell
 
 abbrev pub invariant-loop-child : goal.invariant-loop-child
-invariant-loop-child l = IsLeaving (left_of l.others (14 - resolution l.fn.cell)) l.initial.slots l.written l.yielded l.slots l.count
+invariant-loop-child l =
+    IsLeaving (left_of l.others (14 - resolution l.fn.cell)) l.initial.slots l.written l.yielded l.slots l.count

@@ -9,4 +9,10 @@ overflow_sub-last_digit_step c =
 
 pub returns : goal.returns
 returns c =
-    omega (arith, c.saturating_sub.ensures, c.post_order_key.ensures.is, c.last_digit_step.ensures.is, one-le-pow (15 - resolution c.args.cell) 8 (omega arith))
+    omega (
+      arith,
+      c.saturating_sub.ensures,
+      c.post_order_key.ensures.is,
+      c.last_digit_step.ensures.is,
+      one-le-pow (15 - resolution c.args.cell) 8 (omega arith),
+    )

@@ -12,4 +12,5 @@ returns-clause-in_parts c = in_parts c.coverages_decide_lists.ensures.parts
 
 pub returns-clause-of_one : goal.returns-clause-of_one
 returns-clause-of_one c =
-    of_one c.coverages_decide_lists.ensures.decide c.coverages_decide_lists.ensures.compacted c.coverages_decide_lists.ensures.alike c.coverages_decide_lists.ensures.another_order
+    of_one c.coverages_decide_lists.ensures.decide c.coverages_decide_lists.ensures.compacted
+    c.coverages_decide_lists.ensures.alike c.coverages_decide_lists.ensures.another_order

@@ -8,12 +8,17 @@ returns-clause-one c = zones_are_one c.cells_form_trees.ensures c.coverages_deci
 
 pub returns-clause-in_any_order : goal.returns-clause-in_any_order
 returns-clause-in_any_order c =
-    zones_in_any_order c.cells_form_trees.ensures c.coverages_decide_lists.ensures.ancestors c.coverages_decide_lists.ensures.reordered
-    (λ zones others apart valid same. number_permuted c.cells_form_trees.ensures c.cells_form_intervals.ensures c.coverages_decide_lists.ensures.ancestors c.cells_are_listed.ensures c.coverages_decide_lists.ensures.reordered zones others valid apart same)
+    zones_in_any_order c.cells_form_trees.ensures c.coverages_decide_lists.ensures.ancestors
+    c.coverages_decide_lists.ensures.reordered
+    (λ zones others apart valid same.
+    number_permuted c.cells_form_trees.ensures c.cells_form_intervals.ensures
+    c.coverages_decide_lists.ensures.ancestors c.cells_are_listed.ensures
+    c.coverages_decide_lists.ensures.reordered zones others valid apart same)
 
 pub returns-clause-by_number : goal.returns-clause-by_number
 returns-clause-by_number c =
-    number_of_ascending c.cells_form_trees.ensures c.cells_form_intervals.ensures c.coverages_decide_lists.ensures.ancestors c.cells_are_listed.ensures
+    number_of_ascending c.cells_form_trees.ensures c.cells_form_intervals.ensures
+    c.coverages_decide_lists.ensures.ancestors c.cells_are_listed.ensures
 
 pub returns-clause-nothing : goal.returns-clause-nothing
 returns-clause-nothing c = none_counted

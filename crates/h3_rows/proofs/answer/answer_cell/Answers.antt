@@ -82,7 +82,11 @@ returns-in_ok-last-in-Ok-Missing-clause-ok g c =
     let field : c.in-Ok-Missing.field-0 ≡ Missing = rw c.in-Ok-Missing.is at c.in-Ok-Missing.field-0-is in
     let whole : c.args.said ≡ Ok c.in-Ok-Missing.field-0 = c.in-Ok-Missing.is in
     let said : c.args.said ≡ Ok Missing = whole ∙ ap Ok field in
-    record { text = unanswered form (line_of r) (codes "missing"); is = λ s. rw said refl; moves = c.in_ok-last-in-Ok-Missing.ensures.ok }
+    record {
+      text = unanswered form (line_of r) (codes "missing");
+      is = λ s. rw said refl;
+      moves = c.in_ok-last-in-Ok-Missing.ensures.ok;
+    }
 
 pub returns-in-Err-clause-faulty : goal.returns-in-Err-clause-faulty
 returns-in-Err-clause-faulty g c s =

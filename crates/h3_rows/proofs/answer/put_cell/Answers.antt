@@ -43,8 +43,13 @@ returns-in_err-last-in-Err-clause-err g c =
     let out = sink_use g.W.Sink.taken g.W.Sink.has_failed c.args.out.now c.put_unanswered.new.out in
     let broken : Breaks (take start c.args.block.now ++ row) out e =
     subst (λ l. Breaks (l ++ row) out e) kept
-    (subst (λ s. Breaks (take start c.answer_cell.new.block ++ row) (sink_use g.W.Sink.taken g.W.Sink.has_failed s c.put_unanswered.new.out) e) left (rw c.error_text.ensures at c.in_err-last-in-Err.ensures.err)) in
-    rw (p.1, p.2) (breaks_marked mark form c.args.state k (line_of c.args.row) held c.in-Err.error _ _ out c.if-job.true known
+    (subst
+    (λ s.
+    Breaks (take start c.answer_cell.new.block ++ row)
+    (sink_use g.W.Sink.taken g.W.Sink.has_failed s c.put_unanswered.new.out) e)
+    left (rw c.error_text.ensures at c.in_err-last-in-Err.ensures.err)) in
+    rw (p.1, p.2)
+    (breaks_marked mark form c.args.state k (line_of c.args.row) held c.in-Err.error _ _ out c.if-job.true known
     (faulty (state_of c.args.state held)) (marked_breaks c.args.end c.args.mark c.args.block.now row out e broken))
 
 pub returns-in_ok-last-in-Err-clause-ok : goal.returns-in_ok-last-in-Err-clause-ok
@@ -59,9 +64,14 @@ returns-in_ok-last-in-Err-clause-ok g c =
     let faulty = rw c.in-Err.is at c.in_ok-last.ensures.faulty in
     let row = unanswered form (line_of c.args.row) (row_error_name c.in-Err.error) in
     let after = take c.in_ok-last-in-Err.last c.put_unanswered.new.block in
-    let moves : Moves g.W.Sink.taken g.W.Sink.has_failed (take start c.args.block.now ++ row) after c.args.out.now c.put_unanswered.new.out =
+    let moves : Moves g.W.Sink.taken g.W.Sink.has_failed (take start c.args.block.now ++ row) after c.args.out.now
+    c.put_unanswered.new.out =
     subst (λ l. Moves g.W.Sink.taken g.W.Sink.has_failed (l ++ row) after c.args.out.now c.put_unanswered.new.out) kept
-    (subst (λ s. Moves g.W.Sink.taken g.W.Sink.has_failed (take start c.answer_cell.new.block ++ row) after s c.put_unanswered.new.out) left (rw c.error_text.ensures at c.in_ok-last-in-Err.ensures.ok)) in
+    (subst
+    (λ s.
+    Moves g.W.Sink.taken g.W.Sink.has_failed (take start c.answer_cell.new.block ++ row) after s
+    c.put_unanswered.new.out)
+    left (rw c.error_text.ensures at c.in_ok-last-in-Err.ensures.ok)) in
     let w = c.with_error.ensures in
     puts_marked g.W.Sink.taken g.W.Sink.has_failed mark form c.args.state c.with_error.result k
     (line_of c.args.row) held after c.in-Err.error _ _ _ known c.if-job.true w.number w.columns w.kept
@@ -93,7 +103,9 @@ returns-in_ok-room-in-Ok-clause-ok g c =
     let said = rw c.in-Ok.is at c.in_ok-last.ensures.ok in
     let after = take c.in_ok-room-in-Ok.room c.answer_cell.new.block in
     let p = c.passed.ensures in
-    let moves = moves_on g.W.Sink.taken g.W.Sink.has_failed (take start c.args.block.now ++ said.text) (take c.in-Ok.last c.answer_cell.new.block) after
+    let moves =
+    moves_on g.W.Sink.taken g.W.Sink.has_failed (take start c.args.block.now ++ said.text)
+    (take c.in-Ok.last c.answer_cell.new.block) after
     _ _ _ said.moves c.in_ok-room-in-Ok.ensures.ok in
     puts c.args.state c.passed.result k known (line_of c.args.row) held g.W.Sink.taken
     g.W.Sink.has_failed _ (mark ++ said.text) after _ _ p.number p.columns p.kept
@@ -116,9 +128,18 @@ returns-in-Err-2-clause-err g c =
     sym (take-take end start c.answer_cell.new.block (omega arith)) ∙ ap (take end) kept
     ∙ take-take end start c.args.block.now (omega arith) in
     let out = sink_use g.W.Sink.taken g.W.Sink.has_failed c.args.out.now c.refuse_row.new.out in
-    let ends : EndsBy (record { output = held; ending = Err (AtRow c.args.state.number c.in-Err.error) }) c.refuse_row.result out =
+    let ends : EndsBy (record { output = held; ending = Err (AtRow c.args.state.number c.in-Err.error) })
+    c.refuse_row.result out =
     subst (λ l. EndsBy
     (record { output = l; ending = Err (AtRow c.args.state.number c.in-Err.error) }) c.refuse_row.result out) same
-    (subst (λ s. EndsBy (record { output = take end c.answer_cell.new.block; ending = Err (AtRow c.args.state.number c.in-Err.error) }) c.refuse_row.result (sink_use g.W.Sink.taken g.W.Sink.has_failed s c.refuse_row.new.out)) left c.refuse_row.ensures) in
+    (subst
+    (λ s.
+    EndsBy
+    (record {
+      output = take end c.answer_cell.new.block;
+      ending = Err (AtRow c.args.state.number c.in-Err.error);
+    })
+    c.refuse_row.result (sink_use g.W.Sink.taken g.W.Sink.has_failed s c.refuse_row.new.out))
+    left c.refuse_row.ensures) in
     refused_marked mark form _ c.args.state (line_of c.args.row) held c.in-Err.error _ out c.if-job.false
     (faulty (state_of c.args.state held)) ends

@@ -51,7 +51,8 @@ returns-else-row-eq0-clause-some g c =
     puts_plain form answer a.state a.columns c.requires.known c.if-state-eq1.false silent a.bytes.now row
     c.in_ok-row.field.now held _ done.puts.text returns c.in_ok-index.index c.in_ok-row.ensures.is c.in_ok-index.ensures
     (omega (arith, c.if-end-size-ge-BLOCK.false)) some done.puts.is line done.closed
-    (c.hold_ending-last.ensures.held ∙ ap (λ l. l ++ ending) (before ∙ ap (λ l. l ++ line.line) c.hold_row-at.ensures.held)
+    (c.hold_ending-last.ensures.held
+    ∙ ap (λ l. l ++ ending) (before ∙ ap (λ l. l ++ line.line) c.hold_row-at.ensures.held)
     ∙ append_assoc front line.line ending)
 
 pub returns-in_default-clause-none : goal.returns-in_default-clause-none

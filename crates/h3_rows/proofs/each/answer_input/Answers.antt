@@ -24,14 +24,20 @@ returns-in_err-begun-clause-ends g c =
     let qs = v.job.now.options.now.quotes in
     let form = form_of_job g.F.RowFunction.counts_quotes v.job.now in
     let answer = g.F.RowFunction.answer_of v.job.now.function.now in
-    let ends = ends_before qs g.W.Sink.taken g.W.Sink.has_failed (λ v last. rows_then last (form_of_job g.F.RowFunction.counts_quotes v.job.now) (g.F.RowFunction.answer_of v.job.now.function.now)) (λ v last s. refl)
+    let ends =
+    ends_before qs g.W.Sink.taken g.W.Sink.has_failed
+    (λ v last.
+    rows_then last (form_of_job g.F.RowFunction.counts_quotes v.job.now)
+    (g.F.RowFunction.answer_of v.job.now.function.now))
+    (λ v last s. refl)
     (λ v. state_of v.state (take v.end v.block)) (λ v. held_of v.state.columns (take v.end v.block))
     (λ v. v.out.now) _ _ _
     (λ v w ls t. t.0) (λ v w ls t. ap (λ j last. rows_then last (form_of_job g.F.RowFunction.counts_quotes j.now)
     (g.F.RowFunction.answer_of j.now.function.now)) t.1) (λ v w ls e r. r.0) (λ v is. is)
     (λ s. end_of form.choice s s.columns) v w (g.R.Source.left c.args.input.now) (g.R.Source.left after)
     (g.R.Source.has_failed c.args.input.now) (g.R.Source.has_failed after) e
-    (held_nothing v.state.columns v.end v.block c.requires.empty) (rw (c.new-reader.ensures.source, c.new-reader.ensures.limit) at c.in_err-begun.ensures.err) in
+    (held_nothing v.state.columns v.end v.block c.requires.empty)
+    (rw (c.new-reader.ensures.source, c.new-reader.ensures.limit) at c.in_err-begun.ensures.err) in
     rw (p.1, p.2) (ends_from g.R.Source.left g.R.Source.has_failed after _ qs form answer _
     (g.R.Source.left c.args.input.now) (g.R.Source.has_failed c.args.input.now) (Err e)
     (sink_use g.W.Sink.taken g.W.Sink.has_failed v.out.now w.out.now)
@@ -63,7 +69,12 @@ returns-in_default-clause-ends g c =
     let long : 1114111 < length (left ++ lacking (replicate w.returns 13) left) = c.in_default.ensures.none in
     let row : Piece = (left ++ lacking (replicate w.returns 13) left, inside) in
     let last = rows ∙ ap (λ l. t.ended ++ l) (long_kept 1114111 row.0 inside long) in
-    let ends = ends_last qs g.W.Sink.taken g.W.Sink.has_failed (λ v last. rows_then last (form_of_job g.F.RowFunction.counts_quotes v.job.now) (g.F.RowFunction.answer_of v.job.now.function.now)) (λ v last s. refl)
+    let ends =
+    ends_last qs g.W.Sink.taken g.W.Sink.has_failed
+    (λ v last.
+    rows_then last (form_of_job g.F.RowFunction.counts_quotes v.job.now)
+    (g.F.RowFunction.answer_of v.job.now.function.now))
+    (λ v last s. refl)
     (λ v. state_of v.state (take v.end v.block)) (λ v. held_of v.state.columns (take v.end v.block)) (λ v. v.out.now) _
     (λ v ls x e. RefusesEach (λ last. rows_then last (form_of_job g.F.RowFunction.counts_quotes v.job.now)
     (g.F.RowFunction.answer_of v.job.now.function.now)) (state_of v.state
@@ -74,7 +85,8 @@ returns-in_default-clause-ends g c =
     (λ s. end_of form.choice s s.columns) v w c.refuse_long.new.self (g.R.Source.left c.args.input.now)
     (g.R.Source.left after) (g.R.Source.has_failed c.args.input.now)
     (g.R.Source.has_failed after) c.refuse_long.result (row ∷ [])
-    (held_nothing v.state.columns v.end v.block c.requires.empty) t last c.in_ok-begun.ensures.settled sound (c.refuse_long.ensures row long []).0 in
+    (held_nothing v.state.columns v.end v.block c.requires.empty) t last c.in_ok-begun.ensures.settled sound
+    (c.refuse_long.ensures row long []).0 in
     ends_from g.R.Source.left g.R.Source.has_failed after _ qs form answer _ (g.R.Source.left c.args.input.now)
     (g.R.Source.has_failed c.args.input.now) (Err c.refuse_long.result)
     (sink_use g.W.Sink.taken g.W.Sink.has_failed v.out.now c.refuse_long.new.self.out.now)
@@ -110,7 +122,12 @@ returns-in_err-take_last-clause-ends g c =
     rows
     ∙ ap (λ l. t.ended ++ without_last_nothing ((l, inside) ∷ []))
     (sym (ap (take c.in-Some.last) c.deref.ensures.value ∙ c.in-Some.ensures.some)) in
-    let ends = ends_last qs g.W.Sink.taken g.W.Sink.has_failed (λ v last. rows_then last (form_of_job g.F.RowFunction.counts_quotes v.job.now) (g.F.RowFunction.answer_of v.job.now.function.now)) (λ v last s. refl)
+    let ends =
+    ends_last qs g.W.Sink.taken g.W.Sink.has_failed
+    (λ v last.
+    rows_then last (form_of_job g.F.RowFunction.counts_quotes v.job.now)
+    (g.F.RowFunction.answer_of v.job.now.function.now))
+    (λ v last s. refl)
     (λ v. state_of v.state (take v.end v.block)) (λ v. held_of v.state.columns (take v.end v.block)) (λ v. v.out.now) _
     (λ v ls x e. RefusesEach (λ last. rows_then last (form_of_job g.F.RowFunction.counts_quotes v.job.now)
     (g.F.RowFunction.answer_of v.job.now.function.now)) (state_of v.state
@@ -121,7 +138,8 @@ returns-in_err-take_last-clause-ends g c =
     (λ s. end_of form.choice s s.columns) v w c.take_last.new.job (g.R.Source.left c.args.input.now)
     (g.R.Source.left after) (g.R.Source.has_failed c.args.input.now) (g.R.Source.has_failed after) e
     (without_last_nothing ((row, inside) ∷ []))
-    (held_nothing v.state.columns v.end v.block c.requires.empty) t last c.in_ok-begun.ensures.settled sound c.in_err-take_last.ensures.err.0 in
+    (held_nothing v.state.columns v.end v.block c.requires.empty) t last c.in_ok-begun.ensures.settled sound
+    c.in_err-take_last.ensures.err.0 in
     rw (p.1, p.2) (ends_from g.R.Source.left g.R.Source.has_failed after _ qs form answer _
     (g.R.Source.left c.args.input.now) (g.R.Source.has_failed c.args.input.now) (Err e)
     (sink_use g.W.Sink.taken g.W.Sink.has_failed v.out.now c.take_last.new.job.out.now)
@@ -167,7 +185,8 @@ returns-clause-ends g c =
     (g.F.RowFunction.answer_of j.now.function.now)) t.1) (λ v w ls e never. absurd never) (λ v is. is)
     (λ s. end_of form.choice s s.columns) v w x _ (g.R.Source.left c.args.input.now) (g.R.Source.left after)
     (g.R.Source.has_failed c.args.input.now) (g.R.Source.has_failed after) c.end_answer.result more
-    (held_nothing v.state.columns v.end v.block c.requires.empty) t last answered c.in_ok-take_last.ensures.settled sound (rw job at c.end_answer.ensures))
+    (held_nothing v.state.columns v.end v.block c.requires.empty) t last answered c.in_ok-take_last.ensures.settled
+    sound (rw job at c.end_answer.ensures))
 
 pub take_last-requires : goal.take_last-requires
 take_last-requires g c =

@@ -29,10 +29,24 @@ loop-item-preserved g c =
     let before = rows_with c.args.separator false c.args.after.now (line_of c.args.row) done in
     let one = rows_with c.args.separator false c.args.after.now (line_of c.args.row) (line c.in-Some.item) in
     let after = take c.in_ok-last.last c.put_rows.new.block in
-    let own : Moves g.W.Sink.taken g.W.Sink.has_failed (take c.loop-item.last c.loop-item.block ++ one) after c.loop-item.out c.put_rows.new.out =
-    subst (λ t. Moves g.W.Sink.taken g.W.Sink.has_failed (take c.loop-item.last c.loop-item.block ++ rows_with c.args.separator false c.args.after.now (line_of c.args.row) t) after c.loop-item.out c.put_rows.new.out) c.put-size.ensures.line c.in_ok-last.ensures.ok in
-    let more : before ++ one ≡ rows_with c.args.separator false c.args.after.now (line_of c.args.row) (flat_map line (c.loop-item.yielded ++ c.in-Some.item ∷ [])) =
-    sym (with_more c.args.separator c.args.after.now (line_of c.args.row) done (line c.in-Some.item) (all_lines line g.met.L.Line.are_lines c.loop-item.yielded)) ∙ ap (λ t. rows_with c.args.separator false c.args.after.now (line_of c.args.row) (done ++ t)) (sym (append-nil (line c.in-Some.item))) ∙ ap (rows_with c.args.separator false c.args.after.now (line_of c.args.row)) (sym (flat_map-append line c.loop-item.yielded (c.in-Some.item ∷ []))) in
+    let own : Moves g.W.Sink.taken g.W.Sink.has_failed (take c.loop-item.last c.loop-item.block ++ one) after
+    c.loop-item.out c.put_rows.new.out =
+    subst
+    (λ t.
+    Moves g.W.Sink.taken g.W.Sink.has_failed
+    (take c.loop-item.last c.loop-item.block
+    ++ rows_with c.args.separator false c.args.after.now (line_of c.args.row) t)
+    after c.loop-item.out c.put_rows.new.out)
+    c.put-size.ensures.line c.in_ok-last.ensures.ok in
+    let more : before ++ one
+    ≡ rows_with c.args.separator false c.args.after.now (line_of c.args.row)
+    (flat_map line (c.loop-item.yielded ++ c.in-Some.item ∷ [])) =
+    sym (with_more c.args.separator c.args.after.now (line_of c.args.row) done (line c.in-Some.item)
+    (all_lines line g.met.L.Line.are_lines c.loop-item.yielded))
+    ∙ ap (λ t. rows_with c.args.separator false c.args.after.now (line_of c.args.row) (done ++ t))
+    (sym (append-nil (line c.in-Some.item)))
+    ∙ ap (rows_with c.args.separator false c.args.after.now (line_of c.args.row))
+    (sym (flat_map-append line c.loop-item.yielded (c.in-Some.item ∷ []))) in
     record {
       within = c.in_ok-last.ensures.within;
       moves =
@@ -51,8 +65,16 @@ returns-in_err-last-clause-err g c =
     let done = flat_map line c.loop-item.yielded in
     let before = rows_with c.args.separator false c.args.after.now (line_of c.args.row) done in
     let one = rows_with c.args.separator false c.args.after.now (line_of c.args.row) (line c.in-Some.item) in
-    let own : Breaks (take c.loop-item.last c.loop-item.block ++ one) (sink_use g.W.Sink.taken g.W.Sink.has_failed c.loop-item.out c.put_rows.new.out) c.in_err-last.field-0.0 =
-    subst (λ t. Breaks (take c.loop-item.last c.loop-item.block ++ rows_with c.args.separator false c.args.after.now (line_of c.args.row) t) (sink_use g.W.Sink.taken g.W.Sink.has_failed c.loop-item.out c.put_rows.new.out) c.in_err-last.field-0.0) c.put-size.ensures.line c.in_err-last.ensures.err in
+    let own : Breaks (take c.loop-item.last c.loop-item.block ++ one)
+    (sink_use g.W.Sink.taken g.W.Sink.has_failed c.loop-item.out c.put_rows.new.out) c.in_err-last.field-0.0 =
+    subst
+    (λ t.
+    Breaks
+    (take c.loop-item.last c.loop-item.block
+    ++ rows_with c.args.separator false c.args.after.now (line_of c.args.row) t)
+    (sink_use g.W.Sink.taken g.W.Sink.has_failed c.loop-item.out c.put_rows.new.out)
+    c.in_err-last.field-0.0)
+    c.put-size.ensures.line c.in_err-last.ensures.err in
     rw (p.1, p.2) (λ all e.
     let so_far : Yields g.I.Iterator.next_gives c.into_iter-item-iterator.result c.loop-item.yielded
     c.loop-item.item-iterator =
@@ -62,14 +84,19 @@ returns-in_err-last-clause-err g c =
     c.in-Some.ensures.steps in
     let later = flat_map line (drop (length c.loop-item.yielded + 1) all) in
     let rest = rows_with c.args.separator false c.args.after.now (line_of c.args.row) later in
-    let text : rows_with c.args.separator false c.args.after.now (line_of c.args.row) (flat_map line all) ≡ before ++ (one ++ rest) =
+    let text : rows_with c.args.separator false c.args.after.now (line_of c.args.row) (flat_map line all)
+    ≡ before ++ (one ++ rest) =
     ap (λ l. rows_with c.args.separator false c.args.after.now (line_of c.args.row) (flat_map line l)) split
     ∙ ap (rows_with c.args.separator false c.args.after.now (line_of c.args.row))
     (flat_map-append line c.loop-item.yielded (c.in-Some.item ∷ drop (length c.loop-item.yielded + 1) all))
-    ∙ with_more c.args.separator c.args.after.now (line_of c.args.row) done (line c.in-Some.item ++ later) (all_lines line g.met.L.Line.are_lines c.loop-item.yielded) ∙ ap (λ l. before ++ l) (with_more c.args.separator c.args.after.now (line_of c.args.row) (line c.in-Some.item) later (g.met.L.Line.are_lines c.in-Some.item)) in
+    ∙ with_more c.args.separator c.args.after.now (line_of c.args.row) done (line c.in-Some.item ++ later)
+    (all_lines line g.met.L.Line.are_lines c.loop-item.yielded)
+    ∙ ap (λ l. before ++ l) (with_more c.args.separator c.args.after.now (line_of c.args.row) (line c.in-Some.item)
+    later (g.met.L.Line.are_lines c.in-Some.item)) in
     subst (λ l. Breaks l out c.in_err-last.field-0.0) (append_assoc (held ++ before) one rest
     ∙ append_assoc held before (one ++ rest) ∙ ap (λ l. held ++ l) (sym text))
-    (breaks_more ((held ++ before) ++ one) rest out _ (breaks_then g.W.Sink.taken g.W.Sink.has_failed (held ++ before) _ one _ _ _ _ c.loop-item.invariant.moves own)))
+    (breaks_more ((held ++ before) ++ one) rest out _ (breaks_then g.W.Sink.taken g.W.Sink.has_failed (held ++ before) _
+    one _ _ _ _ c.loop-item.invariant.moves own)))
 
 pub returns-clause-ok : goal.returns-clause-ok
 returns-clause-ok g c all e =

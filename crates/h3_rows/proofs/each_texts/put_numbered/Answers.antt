@@ -17,7 +17,8 @@ loop-number-init g c = record {
     [],
     refl,
     subst
-        (λ l. Moves g.W.Sink.taken g.W.Sink.has_failed l (take c.args.end c.args.block.now) c.args.out.now c.args.out.now)
+        (λ l.
+        Moves g.W.Sink.taken g.W.Sink.has_failed l (take c.args.end c.args.block.now) c.args.out.now c.args.out.now)
         (sym (append-nil (take c.args.end c.args.block.now))) (moves_none g.W.Sink.taken g.W.Sink.has_failed _ _),
   );
 }
@@ -35,7 +36,11 @@ loop-number-preserved g c =
     let one = row_with c.args.separator line (text n ++ c.args.after.now) in
     let more = rows_with c.args.separator quotes c.args.after.now line (numbered_lines text c.in-Some.more.now) in
     let own : Moves g.W.Sink.taken g.W.Sink.has_failed (before ++ one) after c.loop-number.out c.put_row.new.out =
-    subst (λ t. Moves g.W.Sink.taken g.W.Sink.has_failed (before ++ row_with c.args.separator line (t ++ c.args.after.now)) after c.loop-number.out c.put_row.new.out) c.text-text.ensures.text c.in_ok-last.ensures.ok in
+    subst
+    (λ t.
+    Moves g.W.Sink.taken g.W.Sink.has_failed (before ++ row_with c.args.separator line (t ++ c.args.after.now))
+    after c.loop-number.out c.put_row.new.out)
+    c.text-text.ensures.text c.in_ok-last.ensures.ok in
     let first =
     numbered_first c.args.separator quotes c.args.after.now line text c.loop-number.rest.now n c.in-Some.more.now
     c.text-text.result.now c.in-Some.ensures.cases.0 c.text-text.ensures.text c.text-text.ensures.line in
@@ -63,13 +68,21 @@ returns-in_err-last-clause-err g c =
     let one = row_with c.args.separator line (text n ++ c.args.after.now) in
     let more = rows_with c.args.separator quotes c.args.after.now line (numbered_lines text c.in-Some.more.now) in
     let out = sink_use g.W.Sink.taken g.W.Sink.has_failed c.args.out.now c.put_row.new.out in
-    let own : Breaks (before ++ one) (sink_use g.W.Sink.taken g.W.Sink.has_failed c.loop-number.out c.put_row.new.out) c.in_err-last.field-0.0 =
-    subst (λ t. Breaks (before ++ row_with c.args.separator line (t ++ c.args.after.now)) (sink_use g.W.Sink.taken g.W.Sink.has_failed c.loop-number.out c.put_row.new.out) c.in_err-last.field-0.0) c.text-text.ensures.text c.in_err-last.ensures.err in
+    let own : Breaks (before ++ one) (sink_use g.W.Sink.taken g.W.Sink.has_failed c.loop-number.out c.put_row.new.out)
+    c.in_err-last.field-0.0 =
+    subst
+    (λ t.
+    Breaks (before ++ row_with c.args.separator line (t ++ c.args.after.now))
+    (sink_use g.W.Sink.taken g.W.Sink.has_failed c.loop-number.out c.put_row.new.out)
+    c.in_err-last.field-0.0)
+    c.text-text.ensures.text c.in_err-last.ensures.err in
     let first =
     numbered_first c.args.separator quotes c.args.after.now line text c.loop-number.rest.now n c.in-Some.more.now
     c.text-text.result.now c.in-Some.ensures.cases.0 c.text-text.ensures.text c.text-text.ensures.line in
-    rw (p.1, p.2) (subst (λ l. Breaks l out c.in_err-last.field-0.0) (append_assoc (held ++ done) one more ∙ append_assoc held done (one ++ more) ∙ ap (λ l. held ++ l) (sym (split ∙ ap (λ l. done ++ l) first)))
-    (breaks_more ((held ++ done) ++ one) more out _ (breaks_then g.W.Sink.taken g.W.Sink.has_failed (held ++ done) _ one _ _ _ _ moves own)))
+    rw (p.1, p.2) (subst (λ l. Breaks l out c.in_err-last.field-0.0) (append_assoc (held ++ done) one more
+    ∙ append_assoc held done (one ++ more) ∙ ap (λ l. held ++ l) (sym (split ∙ ap (λ l. done ++ l) first)))
+    (breaks_more ((held ++ done) ++ one) more out _
+    (breaks_then g.W.Sink.taken g.W.Sink.has_failed (held ++ done) _ one _ _ _ _ moves own)))
 
 pub returns-clause-ok : goal.returns-clause-ok
 returns-clause-ok g c =

@@ -10,7 +10,9 @@ returns-then-run-lt-LANES-clause-passed c =
 
 pub loop-at-preserved : goal.loop-at-preserved
 loop-at-preserved c =
-    let whole : c.run_before-run.result ≡ 16 = omega (arith, c.if-run-lt-LANES.false, c.run_before-run.ensures.within) in record {
+    let whole : c.run_before-run.result ≡ 16 =
+    omega (arith, c.if-run-lt-LANES.false, c.run_before-run.ensures.within) in
+    record {
       within = omega (arith, c.loop-at-test.true, c.loop-at.invariant.within);
       passed =
           rw whole at (goes_past (is_byte4 c.args.first c.args.second c.args.third c.args.fourth) c.args.bytes.now

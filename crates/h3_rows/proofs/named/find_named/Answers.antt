@@ -35,8 +35,11 @@ returns-in-Ok-clause-ok g c =
     rw read (sym c.is_empty.ensures ∙ c.if-is_empty.false) in
     let columns : table_columns table (read_of c.args.state.number (row_body (line_of r))) ≡ Ok c.in-Ok.columns =
     ap (table_columns table) read ∙ sym c.find_columns.ensures ∙ c.in-Ok.is in
-    let title : title_list c.args.state.number (name_at form c.in-Ok.columns.name (read_of c.args.state.number (row_body (line_of r)))) ≡ entry_list c.args.state.number (option_map (λ p. (p.0, p.1.now)) c.find_title-title.result) =
-    ap (λ l. title_list c.args.state.number (name_at form c.in-Ok.columns.name l)) read ∙ sym (c.find_title-title.ensures c.args.state.number) in
+    let title : title_list c.args.state.number
+    (name_at form c.in-Ok.columns.name (read_of c.args.state.number (row_body (line_of r))))
+    ≡ entry_list c.args.state.number (option_map (λ p. (p.0, p.1.now)) c.find_title-title.result) =
+    ap (λ l. title_list c.args.state.number (name_at form c.in-Ok.columns.name l)) read
+    ∙ sym (c.find_title-title.ensures c.args.state.number) in
     rw (sound, filled, c.in-None.is, columns, title, c.after-in-Ok.ensures.columns) refl
 
 pub returns-in-Err-clause-err : goal.returns-in-Err-clause-err

@@ -11,6 +11,7 @@ returns-clause-ok c = elim c.match-insert.branch [
       rw w.result-is (λ other.
       updates_at items c.args.places.now c.insert.new.self c.in_ok-key.key.items
       (Some c.args.number) w.in-Ok.ensures.updates other
-      ∙ ap (λ l. cond (bytes_eq l other) (Some c.args.number) (get_by (λ k. bytes_eq other k.items) c.args.places.now)) c.in_ok-key.ensures.items))
+      ∙ ap (λ l. cond (bytes_eq l other) (Some c.args.number) (get_by (λ k. bytes_eq other k.items) c.args.places.now))
+      c.in_ok-key.ensures.items))
   | in-Err w ↦ rw w.result-is tt
 ]

@@ -24,7 +24,8 @@ returns-then-more-eq0 c =
     let a = c.args in
     let r = c.requires in
     ends_here a.separator a.quotes r.quote r.feed r.carriage a.columns a.rest.now a.end
-    (wide_is a.separator a.quotes r.quote r.feed r.carriage a.columns c.in-Some.width (a.columns.before + 1) c.in-Some.is
+    (wide_is a.separator a.quotes r.quote r.feed r.carriage a.columns c.in-Some.width (a.columns.before + 1)
+    c.in-Some.is
     (omega (arith, c.if-more-eq0.true))) r.within r.whole
 
 pub returns : goal.returns

@@ -24,8 +24,15 @@ returns-in_err-write_all-2-clause-err g c =
     let held = take c.args.end c.args.block.now in
     let bytes = c.args.bytes.now in
     let some : 0 < length bytes = omega (arith, c.if-bytes-le-BLOCK.false) in
-    rw (p.1, p.2) (breaks_then g.W.Sink.taken g.W.Sink.has_failed held [] bytes c.args.out.now c.write_all.new.out c.write_all-2.new.out _ (moves_all g.W.Sink.taken g.W.Sink.has_failed held _ _ c.in_ok-write_all.ensures.written c.in_ok-write_all.ensures.ok)
-    (refl, some, some_of_part bytes [] bytes (sink_use g.W.Sink.taken g.W.Sink.has_failed c.write_all.new.out c.write_all-2.new.out) (sym (append-nil bytes)) c.in_err-write_all-2.ensures.part c.in_err-write_all-2.ensures.err))
+    rw (p.1, p.2) (breaks_then g.W.Sink.taken g.W.Sink.has_failed held [] bytes c.args.out.now c.write_all.new.out
+    c.write_all-2.new.out _ (moves_all g.W.Sink.taken g.W.Sink.has_failed held _ _ c.in_ok-write_all.ensures.written
+    c.in_ok-write_all.ensures.ok) (
+      refl,
+      some,
+      some_of_part bytes [] bytes
+          (sink_use g.W.Sink.taken g.W.Sink.has_failed c.write_all.new.out c.write_all-2.new.out)
+          (sym (append-nil bytes)) c.in_err-write_all-2.ensures.part c.in_err-write_all-2.ensures.err,
+    ))
 
 pub returns-clause-ok : goal.returns-clause-ok
 returns-clause-ok g c =

@@ -16,11 +16,17 @@ returns-in_err-after_returns-clause-err g c =
 pub returns-clause-ok : goal.returns-clause-ok
 returns-clause-ok g c =
     let r = c.args.row in
-    IfOk-weaker c.put_bytes.result _ _ (λ last k. moves_two g.W.Sink.taken g.W.Sink.has_failed (take c.args.end c.args.block.now) (replicate r.returns 13) (10 ∷ []) _ _ _ _ _ _
-    (ap (λ l. l ++ 10 ∷ []) (sym (returns_of_row r.body.now r.returns r.bare))) c.in_ok-after_returns.ensures.ok k) c.put_bytes.ensures.ok
+    IfOk-weaker c.put_bytes.result _ _ (λ last k.
+    moves_two g.W.Sink.taken g.W.Sink.has_failed (take c.args.end c.args.block.now) (replicate r.returns 13)
+    (10 ∷ []) _ _ _ _ _ _
+    (ap (λ l. l ++ 10 ∷ []) (sym (returns_of_row r.body.now r.returns r.bare))) c.in_ok-after_returns.ensures.ok k)
+    c.put_bytes.ensures.ok
 
 pub returns-clause-err : goal.returns-clause-err
 returns-clause-err g c =
     let r = c.args.row in
-    IfErr-weaker c.put_bytes.result _ _ (λ e k. breaks_last g.W.Sink.taken g.W.Sink.has_failed (take c.args.end c.args.block.now) (replicate r.returns 13) (10 ∷ []) _ _ _ _ _ _
-    (ap (λ l. l ++ 10 ∷ []) (sym (returns_of_row r.body.now r.returns r.bare))) c.in_ok-after_returns.ensures.ok k) c.put_bytes.ensures.err
+    IfErr-weaker c.put_bytes.result _ _ (λ e k.
+    breaks_last g.W.Sink.taken g.W.Sink.has_failed (take c.args.end c.args.block.now) (replicate r.returns 13)
+    (10 ∷ []) _ _ _ _ _ _
+    (ap (λ l. l ++ 10 ∷ []) (sym (returns_of_row r.body.now r.returns r.bare))) c.in_ok-after_returns.ensures.ok k)
+    c.put_bytes.ensures.err

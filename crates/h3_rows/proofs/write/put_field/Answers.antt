@@ -21,10 +21,14 @@ returns-in_err-after_first-clause-err g c =
 
 pub returns-clause-ok : goal.returns-clause-ok
 returns-clause-ok g c =
-    IfOk-weaker c.put_bytes-3.result _ _ (λ last k. moves_three g.W.Sink.taken g.W.Sink.has_failed (take c.args.end c.args.block.now) (c.args.separator ∷ []) c.args.first.now c.args.more.now _ _ _ _ _ _ _ _ refl
+    IfOk-weaker c.put_bytes-3.result _ _ (λ last k.
+    moves_three g.W.Sink.taken g.W.Sink.has_failed (take c.args.end c.args.block.now) (c.args.separator ∷ [])
+    c.args.first.now c.args.more.now _ _ _ _ _ _ _ _ refl
     c.in_ok-after_separator.ensures.ok c.in_ok-after_first.ensures.ok k) c.put_bytes-3.ensures.ok
 
 pub returns-clause-err : goal.returns-clause-err
 returns-clause-err g c =
-    IfErr-weaker c.put_bytes-3.result _ _ (λ e k. breaks_third g.W.Sink.taken g.W.Sink.has_failed (take c.args.end c.args.block.now) (c.args.separator ∷ []) c.args.first.now c.args.more.now _ _ _ _ _ _ _ _ refl
+    IfErr-weaker c.put_bytes-3.result _ _ (λ e k.
+    breaks_third g.W.Sink.taken g.W.Sink.has_failed (take c.args.end c.args.block.now) (c.args.separator ∷ [])
+    c.args.first.now c.args.more.now _ _ _ _ _ _ _ _ refl
     c.in_ok-after_separator.ensures.ok c.in_ok-after_first.ensures.ok k) c.put_bytes-3.ensures.err

@@ -37,8 +37,10 @@ returns-in_err-last-clause-err g c =
     let done = c.args.count - c.loop-left.left in
     let rest = c.loop-left.left - 1 in
     let whole : done + suc rest ≡ c.args.count = omega (arith, c.loop-left-test.true, c.loop-left.invariant.fewer) in
-    rw (p.1, p.2) (breaks_second g.W.Sink.taken g.W.Sink.has_failed (take c.args.end c.args.block.now) (replicate done 13) (13 ∷ []) (replicate rest 13) _ _ _ _ _ _
-    (replicate-append-replicate done (suc rest) 13 ∙ ap (λ n. replicate n 13) whole) c.loop-left.invariant.moves c.in_err-last.ensures.err)
+    rw (p.1, p.2) (breaks_second g.W.Sink.taken g.W.Sink.has_failed (take c.args.end c.args.block.now)
+    (replicate done 13) (13 ∷ []) (replicate rest 13) _ _ _ _ _ _
+    (replicate-append-replicate done (suc rest) 13 ∙ ap (λ n. replicate n 13) whole) c.loop-left.invariant.moves
+    c.in_err-last.ensures.err)
 
 pub returns-clause-ok : goal.returns-clause-ok
 returns-clause-ok g c =

@@ -15,7 +15,8 @@ loop-answer-init g c = record {
     [],
     refl,
     subst
-        (λ l. Moves g.W.Sink.taken g.W.Sink.has_failed l (take c.args.end c.args.block.now) c.args.out.now c.args.out.now)
+        (λ l.
+        Moves g.W.Sink.taken g.W.Sink.has_failed l (take c.args.end c.args.block.now) c.args.out.now c.args.out.now)
         (sym (append-nil (take c.args.end c.args.block.now))) (moves_none g.W.Sink.taken g.W.Sink.has_failed _ _),
   );
 }
@@ -61,8 +62,10 @@ returns-in_err-last-clause-err g c =
     ∙ ap (λ l. done ++ l) (first_with c.args.separator false c.args.after.now
     (line_of c.args.row) c.loop-answer.rest.now c.in-Ok.answer.now c.in-Ok.more.now c.in-Ok.ensures.cut)
     ∙ sym (append_assoc done one more) in
-    rw (p.1, p.2, all) (subst (λ l. Breaks l out c.in_err-last.field-0.0) (append_assoc (held ++ done) one more ∙ append_assoc held done (one ++ more) ∙ ap (λ l. held ++ l) (sym (append_assoc done one more)))
-    (breaks_more ((held ++ done) ++ one) more out _ (breaks_then g.W.Sink.taken g.W.Sink.has_failed (held ++ done) _ one _ _ _ _ moves first)))
+    rw (p.1, p.2, all) (subst (λ l. Breaks l out c.in_err-last.field-0.0) (append_assoc (held ++ done) one more
+    ∙ append_assoc held done (one ++ more) ∙ ap (λ l. held ++ l) (sym (append_assoc done one more)))
+    (breaks_more ((held ++ done) ++ one) more out _
+    (breaks_then g.W.Sink.taken g.W.Sink.has_failed (held ++ done) _ one _ _ _ _ moves first)))
 
 pub returns-clause-ok : goal.returns-clause-ok
 returns-clause-ok g c =

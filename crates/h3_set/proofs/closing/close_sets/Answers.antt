@@ -14,7 +14,8 @@ loop-len-preserved c =
     let S = c.close_once-len.new.cells in
     let m = c.close_once-len.result in
     let rest = drop c.loop-len.len c.loop-len.cells in
-    let size : length (take c.loop-len.len c.loop-len.cells) ≡ c.loop-len.len = length-take-le c.loop-len.len c.loop-len.cells c.loop-len.invariant.within in
+    let size : length (take c.loop-len.len c.loop-len.cells) ≡ c.loop-len.len =
+    length-take-le c.loop-len.len c.loop-len.cells c.loop-len.invariant.within in
     let same : length S ≡ length (take c.loop-len.len c.loop-len.cells) = c.close_once-len.auto.cells in
     let done = c.close_once-len.ensures in
     let fits : c.close_once-len.result ≤ length S = omega (arith, done.within, same) in
@@ -24,7 +25,9 @@ loop-len-preserved c =
       some = done.some;
       within = omega (arith, fits, length-append S rest);
       fewer = omega (arith, done.within, size);
-      leads = subst (ReducesTo c.args.cells.now) (sym front) (leads_on c.args.cells.now (take c.loop-len.len c.loop-len.cells) (take m S) c.loop-len.invariant.leads done.leads);
+      leads =
+          subst (ReducesTo c.args.cells.now) (sym front) (leads_on c.args.cells.now
+          (take c.loop-len.len c.loop-len.cells) (take m S) c.loop-len.invariant.leads done.leads);
       closed = subst HasNoSet (sym front_less) done.closed;
       done = λ e. subst HasNoSet (sym front) (done.none (e ∙ sym size));
     }

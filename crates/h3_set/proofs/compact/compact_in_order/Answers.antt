@@ -10,5 +10,8 @@ compact_apart-requires-clause-valid c =
 
 pub returns-clause-list : goal.returns-clause-list
 returns-clause-list c =
-    let same = compacted_permuted c.cells_form_trees.ensures c.cells_are_listed.ensures c.args.cells.now c.order_apart.new.cells c.order_apart.ensures.valid c.order_apart.ensures.same in
-    subst (λ l. IsPermutation l (take c.compact_apart.result c.compact_apart.new.cells)) (sym same) c.compact_apart.ensures.list
+    let same =
+    compacted_permuted c.cells_form_trees.ensures c.cells_are_listed.ensures c.args.cells.now
+    c.order_apart.new.cells c.order_apart.ensures.valid c.order_apart.ensures.same in
+    subst (λ l. IsPermutation l (take c.compact_apart.result c.compact_apart.new.cells)) (sym same)
+    c.compact_apart.ensures.list

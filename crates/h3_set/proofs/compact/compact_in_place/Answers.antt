@@ -21,13 +21,28 @@ returns-clause-compacted c =
     let m = c.compact_apart-count.result in
     let sorted = c.put_by_number.new.cells in
     let size = length_permutation (take m made) sorted c.put_by_number.ensures.same in
-    let front = take_at sorted (drop m made) m (omega (arith, size, length-take-le m made (omega (arith, c.compact_apart-count.ensures.fewer, c.compact_apart-count.auto.cells)))) in
-    let same = compacted_permuted c.cells_form_trees.ensures c.cells_are_listed.ensures cells c.order_apart.new.cells c.order_apart.ensures.valid c.order_apart.ensures.same in
-    let list : IsPermutation (compacted cells) sorted = IsPermutation-trans (compacted cells) (take m made) sorted (subst (λ l. IsPermutation l (take m made)) (sym same) c.compact_apart-count.ensures.list) c.put_by_number.ensures.same in
-    subst (IsCompacted (IsCovered cells (finest cells)) (finest cells)) (sym front) (sorted_is c.cells_form_trees.ensures c.cells_are_listed.ensures cells sorted c.order_apart.ensures.valid list c.put_by_number.ensures.ascending)
+    let front =
+    take_at sorted (drop m made) m (omega (
+      arith,
+      size,
+      length-take-le m made
+          (omega (arith, c.compact_apart-count.ensures.fewer, c.compact_apart-count.auto.cells)),
+    )) in
+    let same =
+    compacted_permuted c.cells_form_trees.ensures c.cells_are_listed.ensures cells c.order_apart.new.cells
+    c.order_apart.ensures.valid c.order_apart.ensures.same in
+    let list : IsPermutation (compacted cells) sorted =
+    IsPermutation-trans (compacted cells) (take m made) sorted
+    (subst (λ l. IsPermutation l (take m made)) (sym same) c.compact_apart-count.ensures.list)
+    c.put_by_number.ensures.same in
+    subst (IsCompacted (IsCovered cells (finest cells)) (finest cells)) (sym front)
+    (sorted_is c.cells_form_trees.ensures c.cells_are_listed.ensures cells sorted c.order_apart.ensures.valid list
+    c.put_by_number.ensures.ascending)
 
 pub returns-clause-is : goal.returns-clause-is
 returns-clause-is c =
     let cells = c.args.cells.now in
     let fine = finest_is_fine cells c.order_apart.ensures.valid in
-    one_compacted c.cells_form_trees.ensures (IsCovered cells (finest cells)) (finest cells) _ _ (omega (arith, fine)) (returns-clause-compacted c) (compacted_made c.cells_form_trees.ensures c.cells_are_listed.ensures cells c.order_apart.ensures.valid)
+    one_compacted c.cells_form_trees.ensures (IsCovered cells (finest cells)) (finest cells) _ _ (omega (arith, fine))
+    (returns-clause-compacted c)
+    (compacted_made c.cells_form_trees.ensures c.cells_are_listed.ensures cells c.order_apart.ensures.valid)

@@ -15,19 +15,25 @@ returns-clause-unique c = λ cells r a b le p q.
 pub returns-clause-only : goal.returns-clause-only
 returns-clause-only c = λ cells others valid p.
     let fine = finest_is_fine cells valid in
-    one_compacted c.cells_form_trees.ensures (IsCovered cells (finest cells)) (finest cells) others (compacted cells) (omega (arith, fine)) p (compacted_made c.cells_form_trees.ensures c.cells_are_listed.ensures cells valid)
+    one_compacted c.cells_form_trees.ensures (IsCovered cells (finest cells)) (finest cells) others (compacted cells)
+    (omega (arith, fine)) p (compacted_made c.cells_form_trees.ensures c.cells_are_listed.ensures cells valid)
 
 pub returns-clause-tops : goal.returns-clause-tops
 returns-clause-tops c = λ cells valid x.
     let fine = finest_is_fine cells valid in
     let made = compacted_made c.cells_form_trees.ensures c.cells_are_listed.ensures cells valid in (
-      (λ m. member_top c.cells_form_trees.ensures (IsCovered cells (finest cells)) (finest cells) (compacted cells) (omega (arith, fine)) made x m),
-      (λ t. top_member c.cells_form_trees.ensures (IsCovered cells (finest cells)) (finest cells) (compacted cells) (omega (arith, fine)) made x t),
+      (λ m.
+          member_top c.cells_form_trees.ensures (IsCovered cells (finest cells)) (finest cells) (compacted cells)
+          (omega (arith, fine)) made x m),
+      (λ t.
+          top_member c.cells_form_trees.ensures (IsCovered cells (finest cells)) (finest cells) (compacted cells)
+          (omega (arith, fine)) made x t),
     )
 
 pub returns-clause-stream : goal.returns-clause-stream
 returns-clause-stream c = λ cells valid.
-    streams_once c.cells_form_trees.ensures (finest cells) (finest_is_fine cells valid) (IsCovered cells (finest cells)) (compacted cells) (compacted_made c.cells_form_trees.ensures c.cells_are_listed.ensures cells valid)
+    streams_once c.cells_form_trees.ensures (finest cells) (finest_is_fine cells valid) (IsCovered cells (finest cells))
+    (compacted cells) (compacted_made c.cells_form_trees.ensures c.cells_are_listed.ensures cells valid)
 
 pub returns-clause-covered : goal.returns-clause-covered
 returns-clause-covered c = λ cells valid same.

@@ -10,7 +10,13 @@ use Rattle.h3_set.proofs.order.has_overlap.Goals.{After-last_digit_step}
 
 pub overflow_add-post_order_key : goal.overflow_add-post_order_key
 overflow_add-post_order_key c =
-    omega (arith, c.post_order_key-in-loop-i.ensures.is, key_small c.index-cells-i.result, c.last_digit_step.ensures.is, block_small (resolution c.index-cells-i-in-loop-i.result))
+    omega (
+      arith,
+      c.post_order_key-in-loop-i.ensures.is,
+      key_small c.index-cells-i.result,
+      c.last_digit_step.ensures.is,
+      block_small (resolution c.index-cells-i-in-loop-i.result),
+    )
 
 -- the two neighbors, whatever the default
 before : (c : After-last_digit_step) (d : Address) → get_or c.args.cells.now (c.loop-i.i - 1) d ≡ c.index-cells-i.result
@@ -18,7 +24,8 @@ before c d =
     let lt : c.loop-i.i < length c.args.cells.now = omega arith in
     any_default c.args.cells.now (c.loop-i.i - 1) d c.index-cells-i.result (omega (arith, lt)) ∙ sym c.index-cells-i.is
 
-here : (c : After-last_digit_step) (d : Address) → get_or c.args.cells.now c.loop-i.i d ≡ c.index-cells-i-in-loop-i.result
+here : (c : After-last_digit_step) (d : Address)
+    → get_or c.args.cells.now c.loop-i.i d ≡ c.index-cells-i-in-loop-i.result
 here c d =
     let lt : c.loop-i.i < length c.args.cells.now = omega arith in
     any_default c.args.cells.now c.loop-i.i d c.index-cells-i-in-loop-i.result lt ∙ sym c.index-cells-i-in-loop-i.is
@@ -30,9 +37,18 @@ returns-then-post_order_key-last_digit_step c =
     let d = c.index-cells-i.result in
     let lt : c.loop-i.i < length c.args.cells.now = omega arith in
     let back : c.loop-i.i - 1 < length c.args.cells.now = omega (arith, lt) in
-    let key_is : key (get_or c.args.cells.now c.loop-i.i d) < key (get_or c.args.cells.now (c.loop-i.i - 1) d) + 8 ^ (15 - resolution (get_or c.args.cells.now c.loop-i.i d)) =
-    rw (before c.before d, here c.before d) (omega (arith, c.if-post_order_key-last_digit_step.true, c.post_order_key.ensures.is, c.post_order_key-in-loop-i.ensures.is, c.last_digit_step.ensures.is)) in
-    sym (overlap_at cells (i - 1) i d (omega arith) lt (not_before c.cells_form_intervals.ensures _ _ (c.requires.valid (i - 1) d back) (c.requires.valid i d lt) (c.requires.in_order (i - 1) i d (omega arith) lt) key_is))
+    let key_is : key (get_or c.args.cells.now c.loop-i.i d)
+    < key (get_or c.args.cells.now (c.loop-i.i - 1) d) + 8 ^ (15 - resolution (get_or c.args.cells.now c.loop-i.i d)) =
+    rw (before c.before d, here c.before d) (omega (
+      arith,
+      c.if-post_order_key-last_digit_step.true,
+      c.post_order_key.ensures.is,
+      c.post_order_key-in-loop-i.ensures.is,
+      c.last_digit_step.ensures.is,
+    )) in
+    sym (overlap_at cells (i - 1) i d (omega arith) lt (not_before c.cells_form_intervals.ensures _ _
+    (c.requires.valid (i - 1) d back) (c.requires.valid i d lt) (c.requires.in_order (i - 1) i d (omega arith) lt)
+    key_is))
 
 pub loop-i-preserved : goal.loop-i-preserved
 loop-i-preserved c = λ k d pos lt.
@@ -40,9 +56,16 @@ loop-i-preserved c = λ k d pos lt.
       | inl less ↦ c.loop-i.invariant k d pos less
       | inr not ↦
           let is : k ≡ c.loop-i.i = omega (arith, lt, not) in
-          rw (is, before c.before d, here c.before d) (omega (arith, c.if-post_order_key-last_digit_step.false, c.post_order_key.ensures.is, c.post_order_key-in-loop-i.ensures.is, c.last_digit_step.ensures.is))
+          rw (is, before c.before d, here c.before d) (omega (
+            arith,
+            c.if-post_order_key-last_digit_step.false,
+            c.post_order_key.ensures.is,
+            c.post_order_key-in-loop-i.ensures.is,
+            c.last_digit_step.ensures.is,
+          ))
     ]
 
 pub returns : goal.returns
 returns c =
-    sym (none_where c.args.cells.now (by_neighbors c.cells_form_intervals.ensures c.args.cells.now c.requires.valid c.requires.in_order (λ k d pos lt. c.loop-i.invariant k d pos (omega (arith, lt)))))
+    sym (none_where c.args.cells.now (by_neighbors c.cells_form_intervals.ensures c.args.cells.now c.requires.valid
+    c.requires.in_order (λ k d pos lt. c.loop-i.invariant k d pos (omega (arith, lt)))))

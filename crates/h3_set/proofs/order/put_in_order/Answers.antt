@@ -5,5 +5,7 @@ use Rattle.h3_set.proofs.order.put_in_order.Goals as goal
 
 pub returns-clause-in_order : goal.returns-clause-in_order
 returns-clause-in_order c =
-    let h = IsNonDecreasingBy-from_sort_by_key key c.sort_unstable_by_key.new.self c.sort_unstable_by_key.ensures.sorted (λ a r q k. search rules) in
+    let h =
+    IsNonDecreasingBy-from_sort_by_key key c.sort_unstable_by_key.new.self c.sort_unstable_by_key.ensures.sorted
+    (λ a r q k. search rules) in
     λ i j d lt lj. h i j d (omega (arith, lt)) lj

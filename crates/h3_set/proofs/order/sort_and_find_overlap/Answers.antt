@@ -10,7 +10,8 @@ returns-then-rises-clause-in_order c =
 
 pub returns-then-rises-clause-overlap : goal.returns-then-rises-clause-overlap
 returns-then-rises-clause-overlap c =
-    sym (none_where c.args.cells.now (rising_apart c.cells_form_intervals.ensures c.args.cells.now c.requires.valid (c.requires.rises c.if-rises.true)))
+    sym (none_where c.args.cells.now (rising_apart c.cells_form_intervals.ensures c.args.cells.now c.requires.valid
+    (c.requires.rises c.if-rises.true)))
 
 pub returns-clause-overlap : goal.returns-clause-overlap
 returns-clause-overlap c = c.has_overlap.ensures ∙ sym (overlap_permuted _ _ c.put_in_order.ensures.same)

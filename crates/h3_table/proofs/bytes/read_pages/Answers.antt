@@ -6,14 +6,18 @@ use Rattle.h3_table.proofs.bytes.read_pages.Goals as goal
 
 pub returns-in_default-clause-refused : goal.returns-in_default-clause-refused
 returns-in_default-clause-refused g c =
-    let (bytes, held, why) = reads_stopped c.loop-count.invariant.reads (g.R.Source.has_failed c.read.new.self.source.now ≡ true) c.in_default.ensures.err in
+    let (bytes, held, why) =
+    reads_stopped c.loop-count.invariant.reads (g.R.Source.has_failed c.read.new.self.source.now ≡ true)
+    c.in_default.ensures.err in
     (bytes, held, inr (refl, why))
 
 pub loop-count-preserved : goal.loop-count-preserved
 loop-count-preserved g c =
     let some : 0 < c.in-Ok.count = omega (arith, c.if-count-eq0.false) in
     record {
-      reads = reads_more c.loop-count.invariant.reads _ c.read.new.self.reads_left c.read.new.page c.in-Ok.count _ c.in-Ok.ensures.bytes some c.in-Ok.ensures.bound
+      reads =
+          reads_more c.loop-count.invariant.reads _ c.read.new.self.reads_left c.read.new.page c.in-Ok.count _
+          c.in-Ok.ensures.bytes some c.in-Ok.ensures.bound
           (c.read.auto.page ∙ c.loop-count.auto.page) c.in-Ok.ensures.counted (search rules);
       kept = c.in-Ok.ensures.ok ∙ c.loop-count.invariant.kept;
       same = search rules;

@@ -7,4 +7,5 @@ use Rattle.h3_table.proofs.format_two.in_range.Given as goal
 
 abbrev pub invariant-loop-direction : goal.invariant-loop-direction
 invariant-loop-direction l = (is_hexagon_base (slice_index l.numbers 0) ≡ true)
-    × (list_all (is_link_two l.numbers) directions ≡ list_all (is_link_two l.numbers) (drop l.direction-index directions))
+    × (list_all (is_link_two l.numbers) directions
+    ≡ list_all (is_link_two l.numbers) (drop l.direction-index directions))

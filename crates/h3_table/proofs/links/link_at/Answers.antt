@@ -8,4 +8,5 @@ unfolding links_in
 returns-clause-is c = rw c.slot_of.ensures.is refl
 
 pub returns-clause-within : goal.returns-clause-within
-returns-clause-within c = λ all. All-get_or (λ l. IsLink (pair_of l)) c.args.links.now c.slot_of.result no_link (omega arith) all
+returns-clause-within c =
+    λ all. All-get_or (λ l. IsLink (pair_of l)) c.args.links.now c.slot_of.result no_link (omega arith) all

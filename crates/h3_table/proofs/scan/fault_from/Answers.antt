@@ -7,12 +7,17 @@ use Rattle.h3_table.proofs.scan.fault_from.Goals as goal
 
 pub returns-then-is_some : goal.returns-then-is_some
 returns-then-is_some g c =
-    sym (c.loop-direction.invariant ∙ directions-some (g.A.AtLink.fault_of c.args.asked.now c.args.base) directions c.loop-direction.direction-index K c.fault_at-fault.result
+    sym
+    (c.loop-direction.invariant
+    ∙ directions-some (g.A.AtLink.fault_of c.args.asked.now c.args.base) directions
+    c.loop-direction.direction-index K c.fault_at-fault.result
     c.loop-direction-test.true c.fault_at-fault.ensures (sym c.is_some.ensures ∙ c.if-is_some.true))
 
 pub loop-direction-preserved : goal.loop-direction-preserved
 loop-direction-preserved g c =
-    c.loop-direction.invariant ∙ directions-none (g.A.AtLink.fault_of c.args.asked.now c.args.base) directions c.loop-direction.direction-index K c.fault_at-fault.result
+    c.loop-direction.invariant
+    ∙ directions-none (g.A.AtLink.fault_of c.args.asked.now c.args.base) directions c.loop-direction.direction-index K
+    c.fault_at-fault.result
     c.loop-direction-test.true c.fault_at-fault.ensures (sym c.is_some.ensures ∙ c.if-is_some.false)
 
 pub returns : goal.returns

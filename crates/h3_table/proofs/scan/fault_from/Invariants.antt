@@ -4,4 +4,6 @@ use Rattle.h3_table.specs.Checks.{in_directions}
 use Rattle.h3_table.proofs.scan.fault_from.Given as goal
 
 abbrev pub invariant-loop-direction : goal.invariant-loop-direction
-invariant-loop-direction g l = in_directions (g.A.AtLink.fault_of l.asked l.fn.base) directions ≡ in_directions (g.A.AtLink.fault_of l.asked l.fn.base) (drop l.direction-index directions)
+invariant-loop-direction g l =
+    in_directions (g.A.AtLink.fault_of l.asked l.fn.base) directions
+    ≡ in_directions (g.A.AtLink.fault_of l.asked l.fn.base) (drop l.direction-index directions)

@@ -7,4 +7,6 @@ power_of_seven-requires c = places_few c.args.digits c.requires
 
 pub returns : goal.returns
 returns c n less least =
-    ap (λ p. (p - 1) / 6) (c.power_of_seven.ensures.is ∙ ap (λ k. 7 ^ k) (places_are c.args.digits n (omega (arith, c.requires)) less least))
+    ap (λ p. (p - 1) / 6)
+    (c.power_of_seven.ensures.is
+    ∙ ap (λ k. 7 ^ k) (places_are c.args.digits n (omega (arith, c.requires)) less least))

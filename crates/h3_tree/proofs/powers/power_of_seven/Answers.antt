@@ -12,4 +12,5 @@ pub returns-clause-is : goal.returns-clause-is
 returns-clause-is c = rw c.from.ensures (seven_at c.args.levels c.requires)
 
 pub returns-clause-some : goal.returns-clause-some
-returns-clause-some c = rw (c.from.ensures, seven_at c.args.levels c.requires) (omega (arith, sevens_some c.args.levels))
+returns-clause-some c =
+    rw (c.from.ensures, seven_at c.args.levels c.requires) (omega (arith, sevens_some c.args.levels))

@@ -12,7 +12,8 @@ pub returns-clause-items : goal.returns-clause-items
 unfolding disk_left disk
 returns-clause-items c =
     let same : to_z w32 (of_z w32 c.args.k) ≡ c.args.k = omega (arith, ints) in
-    ap (λ l. Ok (c.args.cell, 0) ∷ followed (link_of c.args.table.now) (state c.args.cell 0) l) (ap (λ (k : ℤ). moves_left 0 0 0 (unsigned_abs k)) same ∙ left-all (unsigned_abs c.args.k))
+    ap (λ l. Ok (c.args.cell, 0) ∷ followed (link_of c.args.table.now) (state c.args.cell 0) l)
+    (ap (λ (k : ℤ). moves_left 0 0 0 (unsigned_abs k)) same ∙ left-all (unsigned_abs c.args.k))
 
 pub returns-then-k-lt0-clause-whole : goal.returns-then-k-lt0-clause-whole
 returns-then-k-lt0-clause-whole c =
@@ -30,10 +31,12 @@ returns-clause-whole c =
     rw same at c.disk_is_lawful.ensures
 
 pub returns-then-k-lt0-clause-size : goal.returns-then-k-lt0-clause-size
-returns-then-k-lt0-clause-size c = c.disks_are_spirals.ensures.sizes (link_of c.args.table.now) c.args.cell (unsigned_abs c.args.k)
+returns-then-k-lt0-clause-size c =
+    c.disks_are_spirals.ensures.sizes (link_of c.args.table.now) c.args.cell (unsigned_abs c.args.k)
 
 pub returns-then-is_pentagon-clause-size : goal.returns-then-is_pentagon-clause-size
-returns-then-is_pentagon-clause-size c = c.disks_are_spirals.ensures.sizes (link_of c.args.table.now) c.args.cell (unsigned_abs c.args.k)
+returns-then-is_pentagon-clause-size c =
+    c.disks_are_spirals.ensures.sizes (link_of c.args.table.now) c.args.cell (unsigned_abs c.args.k)
 
 pub returns-clause-size : goal.returns-clause-size
 returns-clause-size c = c.disks_are_spirals.ensures.sizes (link_of c.args.table.now) c.args.cell (unsigned_abs c.args.k)

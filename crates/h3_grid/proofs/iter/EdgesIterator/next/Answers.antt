@@ -19,5 +19,7 @@ pub returns-in-Err-clause-steps : goal.returns-in-Err-clause-steps
 unfolding edges_left
 returns-in-Err-clause-steps c =
     let w = c.args.self.now in
-    let none = ended w.origin w.direction (past_end w.origin w.direction _ w.some w.at_most w.not_deleted c.in-Err.ensures.refused) in
+    let none =
+    ended w.origin w.direction
+    (past_end w.origin w.direction _ w.some w.at_most w.not_deleted c.in-Err.ensures.refused) in
     (none, none)

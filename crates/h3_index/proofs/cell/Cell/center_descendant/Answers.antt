@@ -1,9 +1,12 @@
 use Rattle.h3_index.proofs.MoveLaws.{IsCenterForm, center_form, inside_is, made_valid, made_is}
 use Rattle.h3_index.proofs.cell.Cell.center_descendant.Goals as goal
 
-shown : (c : goal.After-struct_known-1) → IsCenterForm c.args.self c.self.inside.raw c.args.r c.from-finer.result c.resolution.result
+shown : (c : goal.After-struct_known-1)
+    → IsCenterForm c.args.self c.self.inside.raw c.args.r c.from-finer.result c.resolution.result
 shown c =
-    center_form c.args.self c.self.inside.raw c.args.r _ _ _ c.resolution.ensures.valid (inside_is _ _ c.self.invariant c.self.view_is) c.resolution.ensures.number c.resolution-2.ensures.number c.from-finer.ensures c.requires.not_coarser c.requires.at_most_fifteen
+    center_form c.args.self c.self.inside.raw c.args.r _ _ _ c.resolution.ensures.valid
+    (inside_is _ _ c.self.invariant c.self.view_is) c.resolution.ensures.number c.resolution-2.ensures.number
+    c.from-finer.ensures c.requires.not_coarser c.requires.at_most_fifteen
 
 pub overflow_add-result : goal.overflow_add-result
 overflow_add-result c = record { fits = (shown c).fits }

@@ -19,9 +19,14 @@ and_false true b h = refl
 
 pub returns-then-self-resolution-eq0 : goal.returns-then-self-resolution-eq0
 returns-then-self-resolution-eq0 c =
-    c.in_pentagon_base.ensures ∙ and_true _ _ (sym (pentagon_form c.args.self c.self.inside.raw _ c.resolution.ensures.valid (inside_is _ _ c.self.invariant c.self.view_is) c.resolution.ensures.number) ∙ zero_test _ c.if-self-resolution-eq0.true)
+    c.in_pentagon_base.ensures
+    ∙ and_true _ _ (sym (pentagon_form c.args.self c.self.inside.raw _ c.resolution.ensures.valid
+    (inside_is _ _ c.self.invariant c.self.view_is) c.resolution.ensures.number)
+    ∙ zero_test _ c.if-self-resolution-eq0.true)
 
 pub returns-else-self-resolution-eq0 : goal.returns-else-self-resolution-eq0
 returns-else-self-resolution-eq0 c =
-    let none = pentagon_form c.args.self c.self.inside.raw _ c.resolution.ensures.valid (inside_is _ _ c.self.invariant c.self.view_is) c.resolution.ensures.number in
+    let none =
+    pentagon_form c.args.self c.self.inside.raw _ c.resolution.ensures.valid
+    (inside_is _ _ c.self.invariant c.self.view_is) c.resolution.ensures.number in
     none ∙ and_false _ _ (sym none ∙ some_test _ c.if-self-resolution-eq0.false)

@@ -19,9 +19,13 @@ resolution m = and_mask (m / 2 ^ 52) 4
 abbrev passes : ℕ → Bool → Bool
 passes m digits = ((m / 2 ^ 56 == 8) && nat_lt (bit_and (m / 2 ^ 45) 127) 122) && digits
 
-code : (m : ℕ) (r p : Bool) → p ≡ is_pentagon_base (bit_and (m / 2 ^ 45) 127) → r ≡ are_digits p (bit_and (m / 2 ^ 52) 15) (digits_in m) → digits_pass (is_pentagon_base (base_in m)) (resolution_in m) (digits_in m) ≡ r
+code : (m : ℕ) (r p : Bool) → p ≡ is_pentagon_base (bit_and (m / 2 ^ 45) 127)
+    → r ≡ are_digits p (bit_and (m / 2 ^ 52) 15) (digits_in m)
+    → digits_pass (is_pentagon_base (base_in m)) (resolution_in m) (digits_in m) ≡ r
 code m r p e f =
-    number_pass (is_pentagon_base (base_in m)) (resolution_in m) m ∙ sym (f ∙ ap (λ b. are_digits b (bit_and (m / 2 ^ 52) 15) (digits_in m)) (e ∙ ap is_pentagon_base (base m)) ∙ ap (λ n. are_digits (is_pentagon_base (base_in m)) n (digits_in m)) (resolution m))
+    number_pass (is_pentagon_base (base_in m)) (resolution_in m) m
+    ∙ sym (f ∙ ap (λ b. are_digits b (bit_and (m / 2 ^ 52) 15) (digits_in m)) (e ∙ ap is_pentagon_base (base m))
+    ∙ ap (λ n. are_digits (is_pentagon_base (base_in m)) n (digits_in m)) (resolution m))
 
 all_three : (a b d : Bool) → (a && b) && d ≡ true → (a ≡ true) × (b ≡ true) × (d ≡ true)
 all_three true true true e = (refl, refl, refl)
@@ -35,7 +39,8 @@ equal x y h = grind (arith, nat_tests)
 less : (x y : ℕ) → nat_lt x y ≡ true → x < y
 less x y h = grind (arith, nat_tests)
 
-valid : (m : ℕ) (r p : Bool) → p ≡ is_pentagon_base (bit_and (m / 2 ^ 45) 127) → r ≡ are_digits p (bit_and (m / 2 ^ 52) 15) (digits_in m) → passes m r ≡ true → IsCellNumber m
+valid : (m : ℕ) (r p : Bool) → p ≡ is_pentagon_base (bit_and (m / 2 ^ 45) 127)
+    → r ≡ are_digits p (bit_and (m / 2 ^ 52) 15) (digits_in m) → passes m r ≡ true → IsCellNumber m
 valid m r p e f h =
     let each = all_three (m / 2 ^ 56 == 8) (nat_lt (bit_and (m / 2 ^ 45) 127) 122) r h in
     let small : bit_and (m / 2 ^ 45) 127 < 122 = less _ _ each.1 in
@@ -48,7 +53,9 @@ is_less : (x y : ℕ) → x < y → nat_lt x y ≡ true
 is_less x y h = grind (arith, nat_tests)
 
 -- no cell has a number that one of the three tests refuses
-none : (m : ℕ) (r p : Bool) → p ≡ is_pentagon_base (bit_and (m / 2 ^ 45) 127) → r ≡ are_digits p (bit_and (m / 2 ^ 52) 15) (digits_in m) → passes m r ≡ false → (cell : Address) → IsCell cell → number_of cell ≢ m
+none : (m : ℕ) (r p : Bool) → p ≡ is_pentagon_base (bit_and (m / 2 ^ 45) 127)
+    → r ≡ are_digits p (bit_and (m / 2 ^ 52) 15) (digits_in m) → passes m r ≡ false → (cell : Address) → IsCell cell
+    → number_of cell ≢ m
 none m r p e f h cell is number =
     let fields = code_of m cell is number in
     let mode = is_equal (m / 2 ^ 56) 8 fields.0 in
@@ -61,7 +68,8 @@ pub invariant_of-result : goal.invariant_of-result
 invariant_of-result c = valid c.args.raw _ _ refl c.has_valid_digits.ensures c.if-is_cell.true
 
 pub returns-then-is_cell-clause-read : goal.returns-then-is_cell-clause-read
-returns-then-is_cell-clause-read c = sym (cell_in-some _ (valid c.args.raw _ _ refl c.has_valid_digits.ensures c.if-is_cell.true))
+returns-then-is_cell-clause-read c =
+    sym (cell_in-some _ (valid c.args.raw _ _ refl c.has_valid_digits.ensures c.if-is_cell.true))
 
 pub returns-then-is_cell-clause-accepted : goal.returns-then-is_cell-clause-accepted
 returns-then-is_cell-clause-accepted c =
@@ -69,7 +77,8 @@ returns-then-is_cell-clause-accepted c =
     (h.valid, h.is)
 
 pub returns-else-is_cell-clause-read : goal.returns-else-is_cell-clause-read
-returns-else-is_cell-clause-read c = sym (cell_in-none c.args.raw (none c.args.raw _ _ refl c.has_valid_digits.ensures c.if-is_cell.false))
+returns-else-is_cell-clause-read c =
+    sym (cell_in-none c.args.raw (none c.args.raw _ _ refl c.has_valid_digits.ensures c.if-is_cell.false))
 
 pub returns-else-is_cell-clause-refused : goal.returns-else-is_cell-clause-refused
 returns-else-is_cell-clause-refused c = (refl, none c.args.raw _ _ refl c.has_valid_digits.ensures c.if-is_cell.false)

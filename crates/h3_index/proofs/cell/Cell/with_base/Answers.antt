@@ -5,11 +5,15 @@ use Rattle.h3_index.proofs.cell.Cell.with_base.Goals as goal
 
 shown : (c : goal.After-from) → IsBaseForm c.args.self c.self.inside.raw c.args.base c.from-old.result c.from.result
 shown c =
-    base_form c.args.self c.self.inside.raw c.args.base _ _ (inside_cell _ _ c.self.invariant c.self.view_is) (inside_is _ _ c.self.invariant c.self.view_is) c.requires.small c.requires.hexagon (c.from-old.ensures ∙ c.base_cell.ensures.number) c.from.ensures
+    base_form c.args.self c.self.inside.raw c.args.base _ _ (inside_cell _ _ c.self.invariant c.self.view_is)
+    (inside_is _ _ c.self.invariant c.self.view_is) c.requires.small c.requires.hexagon
+    (c.from-old.ensures ∙ c.base_cell.ensures.number) c.from.ensures
 
 pub overflow_sub-result : goal.overflow_sub-result
 overflow_sub-result c =
-    (base_form c.args.self c.self.inside.raw c.args.base _ _ (inside_cell _ _ c.self.invariant c.self.view_is) (inside_is _ _ c.self.invariant c.self.view_is) c.requires.small c.requires.hexagon (c.from-old.ensures ∙ c.base_cell.ensures.number) refl).enough
+    (base_form c.args.self c.self.inside.raw c.args.base _ _ (inside_cell _ _ c.self.invariant c.self.view_is)
+    (inside_is _ _ c.self.invariant c.self.view_is) c.requires.small c.requires.hexagon
+    (c.from-old.ensures ∙ c.base_cell.ensures.number) refl).enough
 
 pub overflow_add-result : goal.overflow_add-result
 overflow_add-result c = record { fits = (shown c).fits }

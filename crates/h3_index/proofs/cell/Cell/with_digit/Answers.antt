@@ -3,13 +3,20 @@ use Rattle.h3_index.proofs.MoveLaws.{inside_is, made_valid, made_is}
 use Rattle.h3_index.proofs.ReplaceLaws.{IsDigitForm, digit_form, inside_cell}
 use Rattle.h3_index.proofs.cell.Cell.with_digit.Goals as goal
 
-shown : (c : goal.After-from-2) → IsDigitForm c.args.self c.self.inside.raw c.args.r c.args.digit c.from.result c.from-2.result
+shown : (c : goal.After-from-2)
+    → IsDigitForm c.args.self c.self.inside.raw c.args.r c.args.digit c.from.result c.from-2.result
 shown c =
-    digit_form c.args.self c.self.inside.raw c.args.r c.args.digit _ _ (inside_cell _ _ c.self.invariant c.self.view_is) (inside_is _ _ c.self.invariant c.self.view_is) c.requires.some c.requires.at_most c.requires.at_most_six c.requires.hexagon (c.from.ensures ∙ c.digit.ensures) (omega (arith, c.from.ensures, c.digit.type_inv)) c.from-2.ensures
+    digit_form c.args.self c.self.inside.raw c.args.r c.args.digit _ _ (inside_cell _ _ c.self.invariant c.self.view_is)
+    (inside_is _ _ c.self.invariant c.self.view_is) c.requires.some c.requires.at_most c.requires.at_most_six
+    c.requires.hexagon (c.from.ensures ∙ c.digit.ensures) (omega (arith, c.from.ensures, c.digit.type_inv))
+    c.from-2.ensures
 
 pub overflow_sub-result : goal.overflow_sub-result
 overflow_sub-result c =
-    (digit_form c.args.self c.self.inside.raw c.args.r c.args.digit _ _ (inside_cell _ _ c.self.invariant c.self.view_is) (inside_is _ _ c.self.invariant c.self.view_is) c.requires.some c.requires.at_most c.requires.at_most_six c.requires.hexagon (c.from.ensures ∙ c.digit.ensures) (omega (arith, c.from.ensures, c.digit.type_inv)) refl).enough
+    (digit_form c.args.self c.self.inside.raw c.args.r c.args.digit _ _
+    (inside_cell _ _ c.self.invariant c.self.view_is) (inside_is _ _ c.self.invariant c.self.view_is)
+    c.requires.some c.requires.at_most c.requires.at_most_six c.requires.hexagon (c.from.ensures ∙ c.digit.ensures)
+    (omega (arith, c.from.ensures, c.digit.type_inv)) refl).enough
 
 pub overflow_add-result : goal.overflow_add-result
 overflow_add-result c = record { fits = (shown c).fits }

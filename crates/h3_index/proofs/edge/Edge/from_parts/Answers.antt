@@ -9,7 +9,8 @@ valid c =
 
 form : (c : goal.After-from) → IsEdgeForm c.args.origin c.args.direction c.raw.result c.from.result
 form c =
-    edge_form c.args.origin c.args.direction c.raw.result c.from.result c.raw.ensures.valid (valid c).direction_small c.raw.ensures.number c.from.ensures
+    edge_form c.args.origin c.args.direction c.raw.result c.from.result c.raw.ensures.valid (valid c).direction_small
+    c.raw.ensures.number c.from.ensures
 
 pub overflow_add-result : goal.overflow_add-result
 overflow_add-result c = record { fits = mode_fits c.args.origin c.raw.result c.raw.ensures.valid c.raw.ensures.number }

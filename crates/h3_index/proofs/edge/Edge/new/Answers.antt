@@ -17,7 +17,8 @@ returns-then-raw-ne2-clause-refused c = (refl, other_mode c.args.raw c.if-raw-ne
 -- a number whose lower bits are no cell's
 no_origin : (c : goal.In-Err) → (e : DirectedEdge) → IsEdge e → edge_number e ≢ c.args.raw
 no_origin c e valid is =
-    c.in-Err.ensures.refused.1 e.origin valid.origin_cell (sym (bits_of e c.args.raw valid is).origin ∙ sym c.origin_number.ensures)
+    c.in-Err.ensures.refused.1 e.origin valid.origin_cell
+    (sym (bits_of e c.args.raw valid is).origin ∙ sym c.origin_number.ensures)
 
 pub returns-in-Err-clause-read : goal.returns-in-Err-clause-read
 returns-in-Err-clause-read c = sym (edge_in-none c.args.raw (no_origin c))
@@ -33,10 +34,13 @@ stands c = record {
 }
 
 pub returns-in-Ok-clause-read : goal.returns-in-Ok-clause-read
-returns-in-Ok-clause-read c = made_read _ _ _ c.from_parts.result c.in-Ok.ensures.accepted.0 (stands c) c.from_parts.ensures.made c.from_parts.ensures.refused
+returns-in-Ok-clause-read c =
+    made_read _ _ _ c.from_parts.result c.in-Ok.ensures.accepted.0 (stands c) c.from_parts.ensures.made
+    c.from_parts.ensures.refused
 
 pub returns-in-Ok-clause-accepted : goal.returns-in-Ok-clause-accepted
 returns-in-Ok-clause-accepted c = made_accepted _ _ _ c.from_parts.result (stands c) c.from_parts.ensures.made
 
 pub returns-in-Ok-clause-refused : goal.returns-in-Ok-clause-refused
-returns-in-Ok-clause-refused c = made_refused _ _ _ c.from_parts.result c.in-Ok.ensures.accepted.0 (stands c) c.from_parts.ensures.refused
+returns-in-Ok-clause-refused c =
+    made_refused _ _ _ c.from_parts.result c.in-Ok.ensures.accepted.0 (stands c) c.from_parts.ensures.refused

@@ -12,4 +12,5 @@ returns-then-are_below_sixteen c =
 pub returns-else-are_below_sixteen : goal.returns-else-are_below_sixteen
 returns-else-are_below_sixteen c =
     sixteen_refused c.args.bytes c.values-digits.result c.requires c.values-digits.ensures.digits
-    (λ small. both_ways c.are_below_sixteen.result c.if-are_below_sixteen.false (c.are_below_sixteen.ensures.back small))
+    (λ small.
+    both_ways c.are_below_sixteen.result c.if-are_below_sixteen.false (c.are_below_sixteen.ensures.back small))

@@ -8,5 +8,9 @@ pub returns : goal.returns
 returns c =
     let first = c.args.first.now in
     let last = c.args.last.now in
-    let whole : take 8 first ++ take 8 last ≡ first ++ last = ap₂ (λ xs ys. xs ++ ys) (take_all 8 first (omega (arith, c.requires.first))) (take_all 8 last (omega (arith, c.requires.last))) in
-    pick_l_whole 0 (take 8 first ++ take 8 last) 16 (ap length whole ∙ omega (arith, length-append first last, c.requires.first, c.requires.last)) ∙ whole
+    let whole : take 8 first ++ take 8 last ≡ first ++ last =
+    ap₂ (λ xs ys. xs ++ ys) (take_all 8 first (omega (arith, c.requires.first)))
+    (take_all 8 last (omega (arith, c.requires.last))) in
+    pick_l_whole 0 (take 8 first ++ take 8 last) 16
+    (ap length whole ∙ omega (arith, length-append first last, c.requires.first, c.requires.last))
+    ∙ whole

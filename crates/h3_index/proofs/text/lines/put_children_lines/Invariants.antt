@@ -8,6 +8,9 @@ use Rattle.h3_index.proofs.text.lines.put_children_lines.Given as goal
 
 abbrev pub invariant-loop-digit : goal.invariant-loop-digit
 invariant-loop-digit l = record {
-  put : take l.end l.bytes ≡ take l.fn.at l.fn.bytes ++ flat_map (λ d. text_of (number_of (child l.fn.parent d)) ++ 10 ∷ []) (steps_below (is_pentagon l.fn.parent) l.digit);
+  put : take l.end l.bytes
+      ≡ take l.fn.at l.fn.bytes
+      ++ flat_map (λ d. text_of (number_of (child l.fn.parent d)) ++ 10 ∷ [])
+      (steps_below (is_pentagon l.fn.parent) l.digit);
   end : l.end ≡ l.fn.at + 16 * length (steps_below (is_pentagon l.fn.parent) l.digit);
 }

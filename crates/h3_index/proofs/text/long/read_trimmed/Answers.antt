@@ -3,7 +3,8 @@ use Rattle.h3_index.specs.Text.{parsed_number, without_prefix}
 use Rattle.h3_index.proofs.TextLaws.{trimmed_letters, trimmed_parsed, trimmed_returned}
 use Rattle.h3_index.proofs.text.long.read_trimmed.Goals as goal
 
-read : (c : goal.After-read_long) → IfSome c.read_long.result (λ n. parsed_number (without_prefix c.args.bytes.now) ≡ Some n)
+read : (c : goal.After-read_long)
+    → IfSome c.read_long.result (λ n. parsed_number (without_prefix c.args.bytes.now) ≡ Some n)
 read c = subst (λ digits. IfSome c.read_long.result (λ n. parsed_number digits ≡ Some n)) c.without_prefix.ensures
     c.read_long.ensures.parsed
 

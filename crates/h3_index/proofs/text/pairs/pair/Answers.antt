@@ -14,8 +14,10 @@ pair_at : (i : ℕ) → i < 256 → get_or PAIRS i [] ≡ digit_char (i / 16 % 1
 pair_at i h =
     two (get_or PAIRS i []) _ _
     (eqb-true _ _ (agree_below_at (λ i. length (get_or PAIRS i []) == 2) (λ _. true) 256 i refl h))
-    (eqb-true _ _ (agree_below_at (λ i. get_or (get_or PAIRS i []) 0 0 == digit_char (i / 16 % 16)) (λ _. true) 256 i refl h))
-    (eqb-true _ _ (agree_below_at (λ i. get_or (get_or PAIRS i []) 1 0 == digit_char (i % 16)) (λ _. true) 256 i refl h))
+    (eqb-true _ _
+    (agree_below_at (λ i. get_or (get_or PAIRS i []) 0 0 == digit_char (i / 16 % 16)) (λ _. true) 256 i refl h))
+    (eqb-true _ _
+    (agree_below_at (λ i. get_or (get_or PAIRS i []) 1 0 == digit_char (i % 16)) (λ _. true) 256 i refl h))
 
 pub returns : goal.returns
 returns c = pair_at c.args.byte c.requires

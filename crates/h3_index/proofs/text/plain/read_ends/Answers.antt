@@ -6,7 +6,8 @@ use Rattle.h3_index.proofs.text.plain.read_ends.Goals as goal
 
 pub returns-in_err-both : goal.returns-in_err-both
 returns-in_err-both c = λ bytes long are.
-    c.from_residual.ensures ∙ ends_refused c.args.more bytes c.requires.few long (c.in_err-both.ensures ∙ ap plain_index are)
+    c.from_residual.ensures
+    ∙ ends_refused c.args.more bytes c.requires.few long (c.in_err-both.ensures ∙ ap plain_index are)
 
 pub returns : goal.returns
 returns c = λ bytes long are.

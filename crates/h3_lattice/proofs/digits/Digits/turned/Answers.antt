@@ -8,7 +8,8 @@ use Rattle.h3_lattice.proofs.digits.Digits.turned.Goals as goal
 
 whole : (c : goal.After-loop-r) → c.loop-r.turned.digits ≡ map (digit_turned c.args.n) c.args.self
 whole c =
-    sym (take_all _ _ (omega arith)) ∙ c.loop-r.invariant.2 ∙ ap (map (digit_turned c.args.n)) (take_all _ _ (omega arith))
+    sym (take_all _ _ (omega arith)) ∙ c.loop-r.invariant.2
+    ∙ ap (map (digit_turned c.args.n)) (take_all _ _ (omega arith))
 
 pub returns-clause-products : goal.returns-clause-products
 returns-clause-products c = subst (AreTurned c.args.n c.args.self) (sym (whole c)) (are_turned c.args.n c.args.self)

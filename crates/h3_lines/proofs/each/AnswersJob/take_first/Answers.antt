@@ -12,7 +12,9 @@ pub returns-clause-none : goal.returns-clause-none
 returns-clause-none g c =
     let v = c.args.self.now in
     none_first c.take_plain.result
-    (λ w. Answered g.W.Sink.taken g.W.Sink.has_failed (lines_from (g.A.Answering.answer_of v.function.now)) v.held.number w.held.number (take v.held.end v.held.block) (take w.held.end w.held.block) v.held.out.now w.held.out.now []
+    (λ w.
+    Answered g.W.Sink.taken g.W.Sink.has_failed (lines_from (g.A.Answering.answer_of v.function.now)) v.held.number
+    w.held.number (take v.held.end v.held.block) (take w.held.end w.held.block) v.held.out.now w.held.out.now []
     × (w.function ≡ v.function) × (w.held.out.ghost_name ≡ v.held.out.ghost_name))
     v _ (answered_none g.W.Sink.taken g.W.Sink.has_failed _ _ _ _, refl, refl) c.take_plain.ensures.none
 

@@ -42,7 +42,8 @@ lies : (c : After-index-self-place) (d : Address × ℕ)
     → LiesIn c.args.self.now c.args.cell (get_or c.self.inside.pairs.now c.zone_near.new.place d).1
 lies c d =
     subst (λ l. LiesIn l c.args.cell (get_or c.self.inside.pairs.now c.zone_near.new.place d).1) c.self.view_is
-    (lies_there c.self.inside.pairs.now c.self.inside.cells.now c.self.invariant c.cells_form_trees.ensures c.args.cell c.in-Some.field-0 c.zone_near.new.place (within c) (at c) c.in-Some.ensures.found.1 d)
+    (lies_there c.self.inside.pairs.now c.self.inside.cells.now c.self.invariant c.cells_form_trees.ensures c.args.cell
+    c.in-Some.field-0 c.zone_near.new.place (within c) (at c) c.in-Some.ensures.found.1 d)
 
 one : (c : After-index-self-place) (d : Address × ℕ) (n : ℕ) → LiesIn c.args.self.now c.args.cell n
     → (get_or c.self.inside.pairs.now c.zone_near.new.place d).1 ≡ n

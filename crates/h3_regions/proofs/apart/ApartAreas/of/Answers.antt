@@ -12,7 +12,8 @@ returns-in-Ok-clause-chosen c =
     take_all (length c.order_areas.new.pairs - c.in-Ok.place) (drop c.in-Ok.place c.order_areas.new.pairs)
     (omega (arith, length-drop c.in-Ok.place c.order_areas.new.pairs)) in
     subst (λ l. AreChosen l c.args.pairs.now) (sym whole)
-    (chosen_permuted c.args.pairs.now c.order_areas.new.pairs c.in-Ok.place c.in-Ok.ensures.within c.order_areas.ensures.same)
+    (chosen_permuted c.args.pairs.now c.order_areas.new.pairs c.in-Ok.place c.in-Ok.ensures.within
+    c.order_areas.ensures.same)
 
 pub returns-in-Ok-clause-apart : goal.returns-in-Ok-clause-apart
 returns-in-Ok-clause-apart c =
@@ -28,4 +29,8 @@ returns-in-Ok-clause-fewer c =
     take_all (length c.order_areas.new.pairs - c.in-Ok.place) (drop c.in-Ok.place c.order_areas.new.pairs)
     (omega (arith, length-drop c.in-Ok.place c.order_areas.new.pairs)) in
     subst (λ l. length l ≤ length c.args.pairs.now) (sym whole)
-    (omega (arith, length-drop c.in-Ok.place c.order_areas.new.pairs, length_permutation c.args.pairs.now c.order_areas.new.pairs c.order_areas.ensures.same))
+    (omega (
+      arith,
+      length-drop c.in-Ok.place c.order_areas.new.pairs,
+      length_permutation c.args.pairs.now c.order_areas.new.pairs c.order_areas.ensures.same,
+    ))

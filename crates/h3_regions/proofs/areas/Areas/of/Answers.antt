@@ -4,7 +4,8 @@ use Rattle.h3_index.specs.Cell.{Address, IsCell}
 use Rattle.h3_regions.specs.Listed.{AreListed, pair_number}
 use Rattle.h3_regions.proofs.areas.Areas.of.Goals as goal
 
-are_listed : (old new : List (Address × ℕ)) → IsPermutation old new → All (λ p. IsCell p.0) old → All (λ p. p.1 < 2 ^ 32) old
+are_listed : (old new : List (Address × ℕ)) → IsPermutation old new → All (λ p. IsCell p.0) old
+    → All (λ p. p.1 < 2 ^ 32) old
     → AllPairs (λ p q. pair_number p ≤ pair_number q) new → AreListed new
 are_listed old new same valid small in_order = record {
   valid = All-permutation (λ p. IsCell p.0) old new same valid;
@@ -31,4 +32,5 @@ pub returns-clause-size : goal.returns-clause-size
 returns-clause-size c = length_permutation c.args.pairs.now c.put_by_number.new.pairs c.put_by_number.ensures.same
 
 pub returns-clause-numbers : goal.returns-clause-numbers
-returns-clause-numbers c = λ k small. All-permutation (λ p. p.1 < k) c.args.pairs.now c.put_by_number.new.pairs c.put_by_number.ensures.same small
+returns-clause-numbers c = λ k small.
+    All-permutation (λ p. p.1 < k) c.args.pairs.now c.put_by_number.new.pairs c.put_by_number.ensures.same small

@@ -4,7 +4,9 @@ use Rattle.h3_regions.proofs.zone_index.ZoneIndex.covers.Goals as goal
 
 pub returns-in-Some : goal.returns-in-Some
 returns-in-Some c = (
-  (λ t. covered_at c.args.self.now c.args.cell c.in-Some.field-0 c.in-Some.ensures.valid c.in-Some.ensures.found.0 c.in-Some.ensures.found.1),
+  (λ t.
+      covered_at c.args.self.now c.args.cell c.in-Some.field-0 c.in-Some.ensures.valid c.in-Some.ensures.found.0
+      c.in-Some.ensures.found.1),
   (λ h. refl),
 )
 

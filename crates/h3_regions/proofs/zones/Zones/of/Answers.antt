@@ -6,6 +6,8 @@ pub returns-in-Ok-clause-covers : goal.returns-in-Ok-clause-covers
 returns-in-Ok-clause-covers c = λ r le x.
     let alike = c.coverages_decide_lists.ensures.alike c.args.cells.now r c.are_cells.ensures le x in
     let same = c.order_zones.ensures.same in (
-      (λ h. alike.0 (permuted_covers c.order_zones.new.cells c.args.cells.now r (IsPermutation-sym c.args.cells.now c.order_zones.new.cells same) x h)),
+      (λ h.
+          alike.0 (permuted_covers c.order_zones.new.cells c.args.cells.now r
+          (IsPermutation-sym c.args.cells.now c.order_zones.new.cells same) x h)),
       (λ h. permuted_covers c.args.cells.now c.order_zones.new.cells r same x (alike.1 h)),
     )

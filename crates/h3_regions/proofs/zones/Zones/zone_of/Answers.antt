@@ -1,25 +1,26 @@
-use Rattle.std.proofs.Common.{◌≡◌, Contains, Some, None, ◌∙◌, sym, ap, subst, get_or}
-use Rattle.h3_index.specs.Descendants.{IsAncestor}
-use Rattle.h3_regions.specs.Zones.{zone_of}
-use Rattle.h3_regions.proofs.ListLaws.{contains_at}
+use Rattle.std.proofs.Common.{Contains, Some, ◌∙◌, sym, ap, subst}
 use Rattle.h3_regions.proofs.RegionLaws.{none_above, one_above}
-use Rattle.h3_regions.proofs.ZoneLaws.{no_zone, only_zone}
+use Rattle.h3_regions.proofs.ZoneLaws.{zone_at, zone_nowhere}
 use Rattle.h3_regions.proofs.zones.Zones.zone_of.Goals as goal
 
 pub returns-in-Some-clause-one : goal.returns-in-Some-clause-one
 returns-in-Some-clause-one c = λ a m above.
-    one_above c.self.inside.cells.now c.args.cell c.in-Some.i c.in-Some.ensures.one c.index-self-i.result a (subst (λ l. Contains l a) (sym c.self.view_is) m) above
+    one_above c.self.inside.cells.now c.args.cell c.in-Some.i c.in-Some.ensures.one c.index-self-i.result a
+    (subst (λ l. Contains l a) (sym c.self.view_is) m) above
 
 pub returns-in-None-clause-one : goal.returns-in-None-clause-one
 returns-in-None-clause-one c = λ a m above.
-    absurd (none_above c.self.inside.cells.now c.args.cell c.in-None.ensures.one a (subst (λ l. Contains l a) (sym c.self.view_is) m) above)
+    absurd (none_above c.self.inside.cells.now c.args.cell c.in-None.ensures.one a
+    (subst (λ l. Contains l a) (sym c.self.view_is) m) above)
 
 pub returns-in-Some-clause-is : goal.returns-in-Some-clause-is
 returns-in-Some-clause-is c =
-    let here : get_or c.self.inside.cells.now c.in-Some.i c.index-self-i.result ≡ c.index-self-i.result = sym c.index-self-i.is in
-    let found = only_zone c.cells_form_trees.ensures c.coverages_decide_lists.ensures.ancestors c.self.inside.cells.now c.index-self-i.result c.args.cell c.self.invariant.apart (contains_at c.self.inside.cells.now c.in-Some.i c.index-self-i.result c.index-self-i.result c.in-Some.ensures.found.0 here) (subst (λ a. IsAncestor a c.args.cell) here (c.in-Some.ensures.found.1 c.index-self-i.result)) in
-    ap Some here ∙ sym (subst (λ l. zone_of l c.args.cell ≡ Some c.index-self-i.result) c.self.view_is found)
+    ap Some (sym c.index-self-i.is)
+    ∙ zone_at c.cells_form_trees.ensures c.coverages_decide_lists.ensures.ancestors c.self.inside.cells.now _
+    c.index-self-i.result c.args.cell c.in-Some.i c.self.view_is c.self.invariant.apart
+    c.in-Some.ensures.found.0 (sym c.index-self-i.is) c.in-Some.ensures.found.1
 
 pub returns-in-None-clause-is : goal.returns-in-None-clause-is
 returns-in-None-clause-is c =
-    sym (subst (λ l. zone_of l c.args.cell ≡ None) c.self.view_is (no_zone c.cells_form_trees.ensures c.coverages_decide_lists.ensures.ancestors c.self.inside.cells.now c.args.cell (none_above c.self.inside.cells.now c.args.cell c.in-None.ensures.one)))
+    zone_nowhere c.cells_form_trees.ensures c.coverages_decide_lists.ensures.ancestors c.self.inside.cells.now _
+    c.args.cell c.self.view_is c.in-None.ensures.one

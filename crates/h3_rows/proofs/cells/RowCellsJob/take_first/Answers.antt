@@ -22,7 +22,8 @@ returns-in_ok-take-in-Some-find_plain_cell-clause-some g c =
     cell_cuts form v.state.number k c.args.bytes.now row n found.cell p c.args.quotes c.if-quotes-self.false in
     rw take_rest (record {
       ended = (line, false) ∷ [];
-      rows = λ rest. first_cut c.args.quotes c.args.bytes.now line p.after (length row + n) cuts (row_length row n) rest;
+      rows =
+          λ rest. first_cut c.args.quotes c.args.bytes.now line p.after (length row + n) cuts (row_length row n) rest;
       takes = (
         found.cell ∷ [],
         plain_have form v.state c.count.new.self k c.args.bytes.now row n found.cell p c.in-Some.is

@@ -44,7 +44,8 @@ returns-in-Some-put_plain-clause-some g c =
       rows = λ rest. first_cut c.args.quotes c.args.bytes.now p.row p.after size cuts p.size_is rest;
       takes = (
         plain_answered g.W.Sink.taken g.W.Sink.has_failed form answer v.state c.count.new.self c.in-Some.columns
-            c.args.bytes.now held held' size returns v.out.now c.in-Some.is c.count.ensures.number c.count.ensures.columns
+            c.args.bytes.now held held' size returns v.out.now c.in-Some.is c.count.ensures.number
+            c.count.ensures.columns
             c.count.ensures.kept p,
         refl,
         refl,

@@ -20,7 +20,9 @@ returns-in_err-last-in-Ok-clause-err g c =
       text = text ++ 10 ∷ [];
       is = c.in-Ok.ensures.ok;
       breaks = subst
-          (λ l. Breaks (held ++ l) out c.in_err-last-in-Ok.field-0.0) (sym once) (rw c.own_bytes-own.ensures at c.in_err-last-in-Ok.ensures.err);
+          (λ l.
+          Breaks (held ++ l) out c.in_err-last-in-Ok.field-0.0) (sym once)
+          (rw c.own_bytes-own.ensures at c.in_err-last-in-Ok.ensures.err);
     }
 
 pub returns-in_ok-last-in-Ok-clause-ok : goal.returns-in_ok-last-in-Ok-clause-ok
@@ -31,4 +33,10 @@ returns-in_ok-last-in-Ok-clause-ok g c =
     let once =
     one_with c.args.separator (g.F.TextFunction.counts_quotes c.args.self.now.function.now) c.args.after.now
     (line_of c.args.row) text c.in-Ok.ensures.line in
-    record { text = text ++ 10 ∷ []; is = c.in-Ok.ensures.ok; moves = subst (λ l. Moves g.W.Sink.taken g.W.Sink.has_failed (held ++ l) after c.args.out.now c.put_row.new.out) (sym once) (rw c.own_bytes-own.ensures at c.in_ok-last-in-Ok.ensures.ok) }
+    record {
+      text = text ++ 10 ∷ [];
+      is = c.in-Ok.ensures.ok;
+      moves =
+          subst (λ l. Moves g.W.Sink.taken g.W.Sink.has_failed (held ++ l) after c.args.out.now c.put_row.new.out)
+          (sym once) (rw c.own_bytes-own.ensures at c.in_ok-last-in-Ok.ensures.ok);
+    }

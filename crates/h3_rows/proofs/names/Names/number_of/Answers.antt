@@ -15,14 +15,25 @@ invariant_of-self-2 c =
     let be : c.keep.new.bytes.items ≡ bytes ++ field =
     c.keep.ensures.bytes ∙ ap (λ l. l ++ field) c.reserve.ensures.items in
     let se : c.keep.new.spans.items ≡ spans ++ (length bytes, length bytes + length field) ∷ [] =
-    c.keep.ensures.spans ∙ ap (λ l. l ++ (length c.reserve.new.self.items, length c.reserve.new.self.items + length field) ∷ []) c.reserve-2.ensures.items ∙ ap (λ l. spans ++ (length l, length l + length field) ∷ []) c.reserve.ensures.items in
+    c.keep.ensures.spans
+    ∙ ap (λ l. l ++ (length c.reserve.new.self.items, length c.reserve.new.self.items + length field) ∷ [])
+    c.reserve-2.ensures.items
+    ∙ ap (λ l. spans ++ (length l, length l + length field) ∷ []) c.reserve.ensures.items in
     let ne : names_in c.keep.new.bytes.items c.keep.new.spans.items ≡ names ++ field ∷ [] =
     ap (λ l. names_in l c.keep.new.spans.items) be ∙ ap (names_in (bytes ++ field)) se
     ∙ spans_more bytes field spans s.within in
     let absent : place_of s.quotes (name_text s.quotes field) names ≡ None =
-    sym (s.known (name_text s.quotes field)) ∙ ap (λ t. get_by (λ k. bytes_eq t k.items) s.places) (sym c.name_text-text.ensures) ∙ sym c.in-None.ensures.value in
-    let updates : (text : List ℕ) → get_by (λ k. bytes_eq text k.items) c.put_text.new.places ≡ cond (bytes_eq (name_text s.quotes field) text) (Some c.len-count.result) (get_by (λ k. bytes_eq text k.items) s.places) =
-    λ text. c.in_ok-put_text.ensures.ok text ∙ ap (λ l. cond (bytes_eq l text) (Some c.len-count.result) (get_by (λ k. bytes_eq text k.items) s.places)) c.name_text-text.ensures in
+    sym (s.known (name_text s.quotes field))
+    ∙ ap (λ t. get_by (λ k. bytes_eq t k.items) s.places) (sym c.name_text-text.ensures)
+    ∙ sym c.in-None.ensures.value in
+    let updates : (text : List ℕ)
+    → get_by (λ k. bytes_eq text k.items) c.put_text.new.places
+    ≡ cond (bytes_eq (name_text s.quotes field) text) (Some c.len-count.result)
+    (get_by (λ k. bytes_eq text k.items) s.places) =
+    λ text.
+    c.in_ok-put_text.ensures.ok text
+    ∙ ap (λ l. cond (bytes_eq l text) (Some c.len-count.result) (get_by (λ k. bytes_eq text k.items) s.places))
+    c.name_text-text.ensures in
     let count : c.len-count.result ≡ length names = omega (arith, length-map spans (span_in bytes), s.spans.ok.0) in
     record {
       within = rw (be, se) (within_more bytes field spans s.within);
@@ -42,10 +53,15 @@ returns-clause-names c =
     let be : c.keep.new.bytes.items ≡ bytes ++ field =
     c.keep.ensures.bytes ∙ ap (λ l. l ++ field) c.reserve.ensures.items in
     let se : c.keep.new.spans.items ≡ spans ++ (length bytes, length bytes + length field) ∷ [] =
-    c.keep.ensures.spans ∙ ap (λ l. l ++ (length c.reserve.new.self.items, length c.reserve.new.self.items + length field) ∷ []) c.reserve-2.ensures.items ∙ ap (λ l. spans ++ (length l, length l + length field) ∷ []) c.reserve.ensures.items in
+    c.keep.ensures.spans
+    ∙ ap (λ l. l ++ (length c.reserve.new.self.items, length c.reserve.new.self.items + length field) ∷ [])
+    c.reserve-2.ensures.items
+    ∙ ap (λ l. spans ++ (length l, length l + length field) ∷ []) c.reserve.ensures.items in
     let ne : names_in c.keep.new.bytes.items c.keep.new.spans.items ≡ names ++ field ∷ [] =
     ap (λ l. names_in l c.keep.new.spans.items) be ∙ ap (names_in (bytes ++ field)) se
     ∙ spans_more bytes field spans s.within in
     let absent : place_of s.quotes (name_text s.quotes field) names ≡ None =
-    sym (s.known (name_text s.quotes field)) ∙ ap (λ t. get_by (λ k. bytes_eq t k.items) s.places) (sym c.name_text-text.ensures) ∙ sym c.in-None.ensures.value in
+    sym (s.known (name_text s.quotes field))
+    ∙ ap (λ t. get_by (λ k. bytes_eq t k.items) s.places) (sym c.name_text-text.ensures)
+    ∙ sym c.in-None.ensures.value in
     ne ∙ sym (with_absent s.quotes names field absent)

@@ -28,5 +28,7 @@ returns-clause-started c =
       at_most_fifteen = c.survey-level.ensures.at_most_fifteen;
       compactable = fits;
       apart = subst IsApart (sym front) (apart_permuted _ _ same fits.apart);
-      part = subst (λ l. HoldsPart l cells q q) (sym front) (λ x. ((λ m. (at x).0 ((members x).1 m)), (λ p. (members x).0 ((at x).1 p))));
+      part =
+          subst (λ l. HoldsPart l cells q q) (sym front)
+          (λ x. ((λ m. (at x).0 ((members x).1 m)), (λ p. (members x).0 ((at x).1 p))));
     }

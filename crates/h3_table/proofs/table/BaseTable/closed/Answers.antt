@@ -5,8 +5,17 @@ use Rattle.h3_table.proofs.table.BaseTable.closed.Goals as goal
 
 pub invariant_of-result : goal.invariant_of-result
 invariant_of-result c =
-    let at = closed_at c.loop-i.links c.loop-i.invariant.0 (λ k h. c.loop-i.invariant.1 k (omega (arith, h, c.loop-i-test.false))) in
-    record { within = all_links c.loop-i.links c.loop-i.invariant.0 (λ k h. c.loop-i.invariant.1 k (omega (arith, h, c.loop-i-test.false))); sound = closed_links_are_sound (links_in c.loop-i.links) at }
+    let at =
+    closed_at c.loop-i.links c.loop-i.invariant.0
+    (λ k h. c.loop-i.invariant.1 k (omega (arith, h, c.loop-i-test.false))) in
+    record {
+      within =
+          all_links c.loop-i.links c.loop-i.invariant.0
+          (λ k h. c.loop-i.invariant.1 k (omega (arith, h, c.loop-i-test.false)));
+      sound = closed_links_are_sound (links_in c.loop-i.links) at;
+    }
 
 pub returns : goal.returns
-returns c = closed_at c.loop-i.links c.loop-i.invariant.0 (λ k h. c.loop-i.invariant.1 k (omega (arith, h, c.loop-i-test.false)))
+returns c =
+    closed_at c.loop-i.links c.loop-i.invariant.0
+    (λ k h. c.loop-i.invariant.1 k (omega (arith, h, c.loop-i-test.false)))

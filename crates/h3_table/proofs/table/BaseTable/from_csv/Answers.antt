@@ -11,12 +11,15 @@ returns-in_err-slots-clause-refused c =
 
 pub returns-in-Some-clause-refused : goal.returns-in-Some-clause-refused
 returns-in-Some-clause-refused c =
-    refuses_missing ⊥ c.in_ok-slots.slots c.args.file.now _ c.first_fault.result c.in-Some.fault refl c.in_ok-slots.ensures.read c.first_fault.ensures c.in-Some.is
+    refuses_missing ⊥ c.in_ok-slots.slots c.args.file.now _ c.first_fault.result c.in-Some.fault refl
+    c.in_ok-slots.ensures.read c.first_fault.ensures c.in-Some.is
 
 pub returns-in-None-clause-accepted : goal.returns-in-None-clause-accepted
 returns-in-None-clause-accepted c = IfOk-weaker c.new.result _ _
-    (λ table done. accepts c.in_ok-slots.slots c.filled.result c.args.file.now _ c.first_fault.result (link_of table) refl
-    c.in_ok-slots.ensures.read c.first_fault.ensures c.in-None.is c.filled.ensures.same done.0 done.1) c.new.ensures.accepted
+    (λ table done.
+    accepts c.in_ok-slots.slots c.filled.result c.args.file.now _ c.first_fault.result (link_of table) refl
+    c.in_ok-slots.ensures.read c.first_fault.ensures c.in-None.is c.filled.ensures.same done.0 done.1)
+    c.new.ensures.accepted
 
 pub returns-in-None-clause-refused : goal.returns-in-None-clause-refused
 returns-in-None-clause-refused c = IfErr-weaker c.new.result _ _

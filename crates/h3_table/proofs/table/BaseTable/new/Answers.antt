@@ -6,5 +6,7 @@ use Rattle.h3_table.proofs.table.BaseTable.new.Goals as goal
 pub invariant_of-result : goal.invariant_of-result
 invariant_of-result c = record {
   within = c.requires;
-  sound = sound_of (links_in c.args.links) (links_within c.args.links (omega arith) c.requires) (sym c.fault_of_links.ensures ∙ c.in-None.is);
+  sound =
+      sound_of (links_in c.args.links) (links_within c.args.links (omega arith) c.requires)
+      (sym c.fault_of_links.ensures ∙ c.in-None.is);
 }

@@ -16,7 +16,8 @@ returns-in_err-text-clause-refused g c =
       bytes,
       left,
       stops _ _ _ why,
-      λ read memory. elim why [ inl out_of_memory ↦ absurd (memory out_of_memory) | inr failed ↦ absurd (read failed.0) ],
+      λ read memory.
+          elim why [ inl out_of_memory ↦ absurd (memory out_of_memory) | inr failed ↦ absurd (read failed.0) ],
     )
 
 pub returns-clause-accepted : goal.returns-clause-accepted
@@ -34,7 +35,8 @@ returns-clause-refused g c = IfErr-weaker c.from_csv.result _ _
     (λ e done. (
       c.in_ok-text.text.items,
       c.in_ok-text.ensures.bytes.0,
-      refuses_more _ _ e (subst (λ (t : List ℕ). RefusesTable ⊥ (table_fault (records_of t)) e) c.as_slice.ensures.value done),
+      refuses_more _ _ e
+          (subst (λ (t : List ℕ). RefusesTable ⊥ (table_fault (records_of t)) e) c.as_slice.ensures.value done),
       λ read memory. c.in_ok-text.ensures.bytes.1,
     )) c.from_csv.ensures.refused
 

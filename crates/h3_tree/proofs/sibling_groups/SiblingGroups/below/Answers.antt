@@ -6,7 +6,11 @@ use Rattle.h3_tree.proofs.SiblingGroupLaws.{all_coarse, descendants-children}
 use Rattle.h3_tree.proofs.sibling_groups.SiblingGroups.below.Goals as goal
 
 pub invariant_of-result : goal.invariant_of-result
-invariant_of-result c = record { coarse = all_coarse _ c.args.cell (c.args.r - 1) (omega (arith, c.requires.finer, c.requires.at_most_fifteen)) c.children_at.ensures.members }
+invariant_of-result c = record {
+  coarse =
+      all_coarse _ c.args.cell (c.args.r - 1) (omega (arith, c.requires.finer, c.requires.at_most_fifteen))
+      c.children_at.ensures.members;
+}
 
 pub returns-clause-parents : goal.returns-clause-parents
 unfolding parents_left
@@ -14,4 +18,5 @@ returns-clause-parents c = c.children_at.ensures.list
 
 pub returns-clause-list : goal.returns-clause-list
 unfolding parents_left
-returns-clause-list c = ap (flat_map children) c.children_at.ensures.list ∙ descendants-children c.args.cell c.args.r c.requires.finer
+returns-clause-list c =
+    ap (flat_map children) c.children_at.ensures.list ∙ descendants-children c.args.cell c.args.r c.requires.finer

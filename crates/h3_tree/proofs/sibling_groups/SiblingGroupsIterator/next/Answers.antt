@@ -4,7 +4,10 @@ use Rattle.h3_tree.proofs.SiblingGroupLaws.{coarse_rest}
 use Rattle.h3_tree.proofs.sibling_groups.SiblingGroupsIterator.next.Goals as goal
 
 pub invariant_of-self : goal.invariant_of-self
-invariant_of-self c = record { coarse = coarse_rest c.args.self.now.parents c.next.new.self c.next.result c.next.ensures.steps c.args.self.now.coarse }
+invariant_of-self c = record {
+  coarse =
+      coarse_rest c.args.self.now.parents c.next.new.self c.next.result c.next.ensures.steps c.args.self.now.coarse;
+}
 
 pub returns-in_err-parent-clause-steps : goal.returns-in_err-parent-clause-steps
 unfolding parents_left
