@@ -83,7 +83,9 @@ pentagons-next res n r c low is ok = by (cases_lt n 12)
           subst (λ m. drop n (pentagons res) ≡ c ∷ drop m (pentagons res)) next
               (drop-some (pentagons res) n c (found ∙ ok)),
         )
-    by (inr h) = let refused = rw (below-some 16 res (omega arith), below-none 12 n h) at is in absurd (cc (sym (ap result_ok refused) ∙ ok))
+    by (inr h) =
+        let refused = rw (below-some 16 res (omega arith), below-none 12 n h) at is in
+        absurd (cc (sym (ap result_ok refused) ∙ ok))
 
 pub pentagons-done : (res n : ℕ) (r : Result Address H3Error) → res ≤ 15 → IsNthPentagon res n r → result_ok r ≡ None
     → drop n (pentagons res) ≡ []

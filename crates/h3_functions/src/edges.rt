@@ -22,7 +22,7 @@ pub fn edge_from(index: u64) -> Result<Edge, H3Error>
 }
 
 /// Whether an index is a valid directed edge, as H3's `isValidDirectedEdge` returns it.
-pub fn is_valid_directed_edge(index: u64) -> bool
+pub(crate) fn is_valid_directed_edge(index: u64) -> bool
     ensures { result ≡ edges.is_valid_directed_edge index }
 {
     edge_from(index).is_ok()
@@ -33,7 +33,7 @@ pub fn is_valid_directed_edge(index: u64) -> bool
 /// # Errors
 ///
 /// `DirEdgeInvalid` if no edge has the index.
-pub fn get_directed_edge_origin(index: u64) -> Result<Cell, H3Error>
+pub(crate) fn get_directed_edge_origin(index: u64) -> Result<Cell, H3Error>
     ensures { result ≡ edges.get_directed_edge_origin index }
 {
     let edge = edge_from(index)?;

@@ -37,7 +37,7 @@ pub fn cell_to_parent(index: u64, res: i32) -> Result<Cell, H3Error>
 ///
 /// - `CellInvalid` if no cell has the index.
 /// - `ResDomain` if the number is not a resolution from the cell's own to 15.
-pub fn cell_to_center_child(index: u64, res: i32) -> Result<Cell, H3Error>
+pub(crate) fn cell_to_center_child(index: u64, res: i32) -> Result<Cell, H3Error>
     ensures { result ≡ hierarchy.cell_to_center_child index res }
 {
     let cell = cell_from(index)?;
@@ -50,7 +50,7 @@ pub fn cell_to_center_child(index: u64, res: i32) -> Result<Cell, H3Error>
 ///
 /// - `CellInvalid` if no cell has the index.
 /// - `ResDomain` if the number is not a resolution from the cell's own to 15.
-pub fn cell_to_last_child(index: u64, res: i32) -> Result<Cell, H3Error>
+pub(crate) fn cell_to_last_child(index: u64, res: i32) -> Result<Cell, H3Error>
     ensures { result ≡ hierarchy.cell_to_last_child index res }
 {
     let cell = cell_from(index)?;
@@ -78,7 +78,7 @@ pub fn cell_to_children(index: u64, res: i32) -> Result<Children, H3Error>
 ///
 /// - `CellInvalid` if no cell has the index.
 /// - `ResDomain` if the number is not a resolution from the cell's own to 15.
-pub fn cell_to_children_size(index: u64, res: i32) -> Result<u64, H3Error>
+pub(crate) fn cell_to_children_size(index: u64, res: i32) -> Result<u64, H3Error>
     ensures { result ≡ hierarchy.cell_to_children_size index res }
 {
     let cell = cell_from(index)?;
@@ -94,7 +94,7 @@ pub fn cell_to_children_size(index: u64, res: i32) -> Result<u64, H3Error>
 /// - `ResDomain` if the number is not a resolution.
 /// - `ResMismatch` if it is finer than the cell's.
 #[inline(always)]
-pub fn cell_to_child_pos(index: u64, res: i32) -> Result<u64, H3Error>
+pub(crate) fn cell_to_child_pos(index: u64, res: i32) -> Result<u64, H3Error>
     ensures { result ≡ hierarchy.cell_to_child_pos index res }
 {
     let cell = cell_from(index)?;

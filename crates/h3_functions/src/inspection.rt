@@ -21,7 +21,7 @@ pub fn cell_from(index: u64) -> Result<Cell, H3Error>
 
 /// Whether an index is a valid cell, as H3's `isValidCell` returns it.
 #[inline(always)]
-pub fn is_valid_cell(index: u64) -> bool
+pub(crate) fn is_valid_cell(index: u64) -> bool
     ensures { result ≡ inspection.is_valid_cell index }
 {
     cell_from(index).is_ok()
@@ -33,7 +33,7 @@ pub fn is_valid_cell(index: u64) -> bool
 ///
 /// `CellInvalid` if no cell has the index.
 #[inline(always)]
-pub fn get_resolution(index: u64) -> Result<u8, H3Error>
+pub(crate) fn get_resolution(index: u64) -> Result<u8, H3Error>
     ensures { result ≡ inspection.get_resolution index }
 {
     let cell = cell_from(index)?;
@@ -46,7 +46,7 @@ pub fn get_resolution(index: u64) -> Result<u8, H3Error>
 ///
 /// `CellInvalid` if no cell has the index.
 #[inline(always)]
-pub fn get_base_cell_number(index: u64) -> Result<u8, H3Error>
+pub(crate) fn get_base_cell_number(index: u64) -> Result<u8, H3Error>
     ensures { result ≡ inspection.get_base_cell_number index }
 {
     let cell = cell_from(index)?;
@@ -58,7 +58,7 @@ pub fn get_base_cell_number(index: u64) -> Result<u8, H3Error>
 /// # Errors
 ///
 /// `CellInvalid` if no cell has the index.
-pub fn is_pentagon(index: u64) -> Result<bool, H3Error>
+pub(crate) fn is_pentagon(index: u64) -> Result<bool, H3Error>
     ensures { result ≡ inspection.is_pentagon index }
 {
     let cell = cell_from(index)?;
@@ -70,7 +70,7 @@ pub fn is_pentagon(index: u64) -> Result<bool, H3Error>
 /// # Errors
 ///
 /// `CellInvalid` if no cell has the index.
-pub fn is_res_class_iii(index: u64) -> Result<bool, H3Error>
+pub(crate) fn is_res_class_iii(index: u64) -> Result<bool, H3Error>
     ensures { result ≡ inspection.is_res_class_iii index }
 {
     let cell = cell_from(index)?;

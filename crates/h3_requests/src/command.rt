@@ -44,35 +44,14 @@ pub enum IndexFunction {
     OriginToDirectedEdges,
 }
 
-/// A command with what its words parse as: one variant a command, named as H3's functions are.
+/// A command with what its words parse as: one variant a command, named as H3's functions are; those of the
+/// functions of one index share one in the singular, and one in the plural.
 ///
 /// An index is `None` where its word parses as none.
 #[derive(Clone, Copy, PartialEq, Eq)]
 pub enum Command {
-    /// Whether an index is a valid cell.
-    IsValidCell {
-        cell: Option<u64>,
-    },
-
-    /// The resolution of a cell.
-    GetResolution {
-        cell: Option<u64>,
-    },
-
-    /// The base cell of a cell.
-    GetBaseCellNumber {
-        cell: Option<u64>,
-    },
-
-    /// Whether a cell is a pentagon.
-    IsPentagon {
-        cell: Option<u64>,
-    },
-
-    /// Whether the resolution of a cell is Class III.
-    IsResClassIII {
-        cell: Option<u64>,
-    },
+    /// What a function of one index returns for the index of a word.
+    ForOne(IndexFunction, Option<u64>),
 
     /// How many cells a resolution has.
     GetNumCells {
@@ -87,38 +66,8 @@ pub enum Command {
         res: i32,
     },
 
-    /// The ancestor of a cell at a resolution.
-    CellToParent {
-        cell: Option<u64>,
-        res: i32,
-    },
-
-    /// The descendant of a cell at a resolution whose further digits are 0.
-    CellToCenterChild {
-        cell: Option<u64>,
-        res: i32,
-    },
-
-    /// The last descendant of a cell at a resolution, whose further digits are 6.
-    CellToLastChild {
-        cell: Option<u64>,
-        res: i32,
-    },
-
     /// The descendants of a cell at a resolution.
     CellToChildren {
-        cell: Option<u64>,
-        res: i32,
-    },
-
-    /// How many descendants a cell has at a resolution.
-    CellToChildrenSize {
-        cell: Option<u64>,
-        res: i32,
-    },
-
-    /// The position of a cell among the descendants of its ancestor at a resolution.
-    CellToChildPos {
         cell: Option<u64>,
         res: i32,
     },
@@ -201,24 +150,9 @@ pub enum Command {
         to: Option<u64>,
     },
 
-    /// Whether an index is a valid directed edge.
-    IsValidDirectedEdge {
-        edge: Option<u64>,
-    },
-
-    /// The cell that an edge leaves.
-    GetDirectedEdgeOrigin {
-        edge: Option<u64>,
-    },
-
     /// The cell that an edge leads to, over a base cell table.
     GetDirectedEdgeDestination {
         edge: Option<u64>,
-    },
-
-    /// The edges that leave a cell.
-    OriginToDirectedEdges {
-        cell: Option<u64>,
     },
 
     /// The descendants at a resolution of each cell of a list.

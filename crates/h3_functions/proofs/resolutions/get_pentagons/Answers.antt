@@ -15,6 +15,7 @@ returns c =
     let read : ℤ = to_z w32 (of_z w32 c.args.res) in
     let same : read ≡ c.args.res = to_z-of_z w32 c.args.res (search rules) in
     let is : get_pentagons c.args.res ≡ Ok (pentagons c.in_ok-res.res) =
-    sym (ap get_pentagons same) ∙ ap (λ o. option_map_or (λ r. Ok (pentagons r)) o (Err ResDomain)) c.in_ok-res.ensures.ok.0 in
+    sym (ap get_pentagons same)
+    ∙ ap (λ o. option_map_or (λ r. Ok (pentagons r)) o (Err ResDomain)) c.in_ok-res.ensures.ok.0 in
     subst (Lists (YieldsFirst pentagons_left) (Ok c.of_resolution.result)) (sym is)
     (YieldsList-from_first (λ x. x) pentagons_left (pentagons c.in_ok-res.res) c.of_resolution.ensures).runs
