@@ -156,7 +156,8 @@ sums_whole : (amounts : List Amount)
     → total (map (λ row. row.units) (parent_sums amounts)) ≡ total (map (λ a. a.1) amounts)
 sums_whole amounts =
     row_units amounts (distinct (cells_in amounts))
-    ∙ spread ◌+ℤ◌ (pos 0) +ℤ_idl +ℤ_idr swapped amounts (distinct (cells_in amounts)) (distinct_rises (cells_in amounts))
+    ∙ spread ◌+ℤ◌ (pos 0) +ℤ_idl +ℤ_idr swapped amounts (distinct (cells_in amounts))
+    (distinct_rises (cells_in amounts))
     (all_among amounts)
     ∙ all_units amounts
 

@@ -49,7 +49,8 @@ differ a b ne =
 
 module _ (cells : List Address) (order : IsNonDecreasingBy number_of cells) (i j : ℕ) (run : IsRun cells i j) where
   -- what comes after it is above it
-  pub later : (k : ℕ) (d : Address) → j ≤ k → k < length cells → number_of (get_or cells i d) < number_of (get_or cells k d)
+  pub later : (k : ℕ) (d : Address) → j ≤ k → k < length cells
+      → number_of (get_or cells i d) < number_of (get_or cells k d)
   later k d le lt =
       let some = run.some in
       let up : number_of (get_or cells i d) ≤ number_of (get_or cells j d) =
@@ -224,7 +225,8 @@ counted_run cells order i j rows put run c is text same =
     ap (times cells) is ∙ run_times (parent_count cells) cells order i j rows put run c in
     ap (λ t. (t, j - i)) same ∙ ap (λ n. (text_of (number_of c), n)) (sym many)
 
-pub times_permuted : (old new : List Address) → IsPermutation old new → (cell : Address) → times new cell ≡ times old cell
+pub times_permuted : (old new : List Address) → IsPermutation old new → (cell : Address)
+    → times new cell ≡ times old cell
 times_permuted old new same cell = sum_by-IsPermutation (λ x. cond (is_same cell x) 1 0) old new same
 
 -- the counts do not depend on the order of the list

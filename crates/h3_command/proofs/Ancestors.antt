@@ -39,7 +39,8 @@ put_all P x (c ∷ cs) px all =
       | inl t ↦ rw t (All-cons P x (c ∷ cs) px all)
       | inr f ↦ elim (cases_Bool (number_of x == number_of c)) [
         | inl e ↦ rw (f, e) (All-cons P x cs px (All-tail P c cs all))
-        | inr n ↦ rw (f, n) (All-cons P c (with_cell x cs) (all 0 c (omega arith)) (put_all P x cs px (All-tail P c cs all)))
+        | inr n ↦
+            rw (f, n) (All-cons P c (with_cell x cs) (all 0 c (omega arith)) (put_all P x cs px (All-tail P c cs all)))
       ]
     ]
 
@@ -53,7 +54,8 @@ pub rises_head : (c : Address) (cs : List Address) → Rises (c ∷ cs) → All 
 rises_head c cs rises i d lt = rises 0 (suc i) d (omega arith) (omega (arith, lt))
 
 put_rises : (x : Address) (cs : List Address) → Rises cs → Rises (with_cell x cs)
-put_rises x [] rises = AllPairs-cons (λ a b. number_of a < number_of b) x [] (λ i d lt. absurd (omega (arith, lt))) rises
+put_rises x [] rises =
+    AllPairs-cons (λ a b. number_of a < number_of b) x [] (λ i d lt. absurd (omega (arith, lt))) rises
 put_rises x (c ∷ cs) rises =
     let R : Address → Address → Type 0 = λ a b. number_of a < number_of b in
     let later = rises_head c cs rises in

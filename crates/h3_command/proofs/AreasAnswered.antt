@@ -122,7 +122,8 @@ pub ends_apart : AlikeAreas → ClashesAreFound
     → EndsLines (text_form rows table.names.quotes column) (name_answer (string_bytes options.none)
     (names_in table.names.bytes.items table.names.spans.items) areas) input ending out
     → EndsWithAreas overlapping options rows entries input ending out
-ends_apart law clashes overlapping options rows entries table areas column input ending out holds free alike apart titled ends =
+ends_apart law clashes overlapping options rows entries table areas column input ending out holds free alike apart
+    titled ends =
     let listed : AreListedAlike areas table.cells.items =
     law.listed areas table.cells.items alike apart (not_refused clashes table.cells.items free) in
     inl (

@@ -97,11 +97,13 @@ pub ends_counted : AlikeAreas
     (input : SourceUse) (ending : Result (Unit {0}) RunError) (out : SinkUse)
     → HoldsAreas options.table.rows.quotes entries table → overlap_error options.overlapping table.cells.items ≡ None
     → AreAlike areas table.cells.items → title ≡ unwrap_or (option_map (λ t. t.items) table.title) (codes "zone")
-    → EndsNumberedList itself (list_form list) (λ cells. written (counts_table options.table.rows.separator (if has_header
+    → EndsNumberedList itself (list_form list)
+    (λ cells. written (counts_table options.table.rows.separator (if has_header
     options list then Some title else None) (area_counts (string_bytes options.none)
     (names_in table.names.bytes.items table.names.spans.items) areas cells))) input ending out
     → EndsJudged (overlap_error options.overlapping (area_cells options.table.rows.quotes entries))
-    (EndsNumberedList itself (list_form list) (area_counts_answer options list entries) input ending out) input ending out
+    (EndsNumberedList itself (list_form list) (area_counts_answer options list entries) input ending out) input ending
+    out
 ends_counted law options list entries table areas title input ending out holds free alike titled ends =
     let none = string_bytes options.none in
     let separator = options.table.rows.separator in

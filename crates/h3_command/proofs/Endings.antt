@@ -201,7 +201,7 @@ rows_unread form input sound alone =
         unended = ([], false);
         rows = refl;
         begun = omega arith;
-        cells = [];
+        taken = [];
         good = refl;
       },
     )
@@ -235,7 +235,7 @@ entries_unread table about input out sound alone left =
           unended = ([], false);
           rows = refl;
           begun = omega arith;
-          entries = [];
+          taken = [];
           good = refl;
         },
       ),

@@ -43,7 +43,8 @@ read_before says cells list input is whole =
 -- the list is read, and the answer about its cells is written, or there is no memory for it
 pub list_ends : (form : Option Form) (about : List Address → Answer) (cells : List Address) (input : SourceUse)
     (ending : Result (Unit {0}) RunError) (out : SinkUse)
-    → GivesCells itself form input cells → WritesUnlessMemory (about cells) ending out → EndsList form about input ending out
+    → GivesCells itself form input cells → WritesUnlessMemory (about cells) ending out
+    → EndsList form about input ending out
 list_ends None about cells input ending out given (inl writes) = list_written about cells input ending out given writes
 list_ends None about cells input ending out given (inr (is, left)) =
     subst (λ e. EndsList None about input e out) (sym is) (
@@ -62,7 +63,8 @@ list_unanswered None about input e out refused left = list_refused about input e
 list_unanswered (Some form) about input e out refused left = inr (refused, left)
 
 -- the same two, where the error of a faulty line is reported with its number
-pub numbered_ends : (says : Says) (form : Option Form) (about : List Address → Answer) (cells : List Address) (input : SourceUse)
+pub numbered_ends : (says : Says) (form : Option Form) (about : List Address → Answer) (cells : List Address)
+    (input : SourceUse)
     (ending : Result (Unit {0}) RunError) (out : SinkUse)
     → GivesCells says form input cells → WritesUnlessMemory (about cells) ending out
     → EndsNumberedList says form about input ending out
@@ -77,7 +79,8 @@ numbered_ends says None about cells input ending out given (inr (is, left)) =
     )
 numbered_ends says (Some form) about cells input ending out given writes = inl (cells, given, writes)
 
-pub numbered_unanswered : (says : Says) (form : Option Form) (about : List Address → Answer) (input : SourceUse) (e : RunError)
+pub numbered_unanswered : (says : Says) (form : Option Form) (about : List Address → Answer) (input : SourceUse)
+    (e : RunError)
     (out : SinkUse)
     → RefusesNumbered says form input e → IsLeft out → EndsNumberedList says form about input (Err e) out
 numbered_unanswered says None about input e out refused left = numbered_refused says about input e out refused left

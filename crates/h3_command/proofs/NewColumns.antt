@@ -32,7 +32,7 @@ use Rattle.h3_requests.specs.declared.command.IndexFunction.{IndexFunction}
 use Rattle.h3_requests.specs.declared.command.Command.TheVariants as command
 use Rattle.h3_rows.specs.Laws.{FieldsAreKept, PairsAreKept}
 use Rattle.h3_lines.specs.Pieces.{Piece, Uncut, cut, inside_after, is_uncut, turned, with_first}
-use Rattle.h3_rows.specs.RowsAnswer.{Form, each_with, row_with}
+use Rattle.h3_rows.specs.RowsAnswer.{each_with, row_with}
 use Rattle.h3_index.specs.Text.{is_blank, text_of, without_leading_blanks, without_leading_zeros}
 use Rattle.h3_requests.specs.declared.rows.RowOptions.{RowOptions}
 use Rattle.h3_rows.specs.Areas.{EntriesAreFields, IsOneField, NamesAreFields, area_cells, area_names, title_after, title_with}
@@ -44,14 +44,14 @@ use Rattle.h3_requests.specs.declared.rows.AreaOptions.{AreaOptions}
 use Rattle.h3_requests.specs.declared.rows.CellField.{CellField}
 use Rattle.h3_requests.specs.declared.rows.Tables.{Tables}
 use Rattle.h3_lines.specs.declared.run_error.AnswerError.{AnswerError}
-use Rattle.h3_command.specs.Answer.{Request, answer_for, area_counts_request, by_region_request, by_request, counts_request, parents_request, shown, summed, with_table, zone_counts_request, zones_request}
-use Rattle.h3_command.specs.Answer.Request.{of_list, of_numbered_list}
+use Rattle.h3_command.specs.Answer.{ListRequest, answer_for, area_counts_request, by_request, combined_request, counts_request, parents_request, shown, summed, with_table, zone_counts_request, zones_request}
+use Rattle.h3_command.specs.Answer.ListRequest.{of_numbered, of_whole}
 use Rattle.h3_command.specs.Areas.{area_answer, areas_of_file, entries_of_table, judged_areas, name_lines, names_or, overlap_error, unless_overlapping}
 use Rattle.h3_command.specs.Files.{cell_to_zone, is_covered_cell}
 use Rattle.h3_command.specs.Required.{cell_given, edge_given, index_given}
 use Rattle.h3_command.specs.LongAnswers.{between_parts, whole_walk}
-use Rattle.h3_command.specs.NewColumns.{AnswersAreWords, AnswersBy, AreAnswerLines, AreLinesOf, ErrorNamesAreFields, ErrorNamesAreKept, IsField, IsPairOfWords, IsWord, IsZoneLine, NamesAreKept, RowsStandOnce, TitlesAreFields, WordPairsAreKept, WordPairsAreUncut, WordsAreFields, WordsAreKept, is_lower_or_digit, is_plain}
-use Rattle.h3_command.specs.Rows.{file_form, list_form}
+use Rattle.h3_command.specs.NewColumns.{AnswersAreWords, AnswersBy, AnswersEach, AreAnswerLines, AreLinesOf, ErrorNamesAreFields, ErrorNamesAreKept, IsField, IsPairOfWords, IsWord, IsZoneLine, NamesAreKept, RowsStandOnce, TitlesAreFields, WordPairsAreKept, WordPairsAreUncut, WordsAreFields, WordsAreKept, is_lower_or_digit, is_plain}
+use Rattle.h3_command.specs.Rows.{list_form}
 use Rattle.h3_regions.specs.Algebra.{difference, intersection}
 use Rattle.h3_command.specs.TableLists.{destination_of}
 
@@ -514,18 +514,18 @@ zone_lines_of : NamesAreFields → (tables : Tables) (areas : Option AreaOptions
     → AnswersBy (AreAnswerLines (IsZoneLine areas)) (zones_request tables areas)
 zone_lines_of names tables None = λ zones index. printed_lines IsWord zone_line (cell_to_zone zones index) zone_lines
 zone_lines_of names tables (Some areas) =
-    λ bytes entries index is. area_lines names areas.overlapping areas bytes entries index is
+    λ bytes entries is index. area_lines names areas.overlapping areas bytes entries index is
 
 no_lines_summed : (Is : Answer → Type 0) (areas : AreaOptions) (list : Option RowOptions)
     (sum : Option (RowOptions × CellField))
     → AnswersBy Is (area_counts_request areas list sum)
-no_lines_summed Is areas list None = tt
-no_lines_summed Is areas list (Some sum) = tt
+no_lines_summed Is areas list None = λ bytes entries is. tt
+no_lines_summed Is areas list (Some sum) = λ bytes entries is. tt
 
 no_lines_of_zones : (Is : Answer → Type 0) (tables : Tables) (sum : Option (RowOptions × CellField))
     → AnswersBy Is (zone_counts_request tables sum)
-no_lines_of_zones Is tables None = tt
-no_lines_of_zones Is tables (Some sum) = tt
+no_lines_of_zones Is tables None = λ zones. tt
+no_lines_of_zones Is tables (Some sum) = λ zones. tt
 
 -- counts are no answer line by line
 no_lines_counted : (Is : Answer → Type 0) (tables : Tables) (areas : Option AreaOptions)
@@ -535,42 +535,39 @@ no_lines_counted Is tables (Some areas) = no_lines_summed Is areas tables.list (
 
 -- nor are the counts and sums by ancestors
 no_lines_of_parents : (Is : Answer → Type 0) (res : ℤ) (list : Option RowOptions)
-    (sum : Option (RowOptions × CellField)) → AnswersBy Is (parents_request res list sum)
+    (sum : Option (RowOptions × CellField)) → AnswersEach Is (parents_request res list sum)
 no_lines_of_parents Is res list None = tt
 no_lines_of_parents Is res list (Some sum) = tt
 
 -- nor are lists by the values of a field
 no_lines_by : (Is : Answer → Type 0) (by : Option CellField) (list : Option RowOptions)
-    (function : List Address → Result (List Address) H3Error) (whole : Request)
-    → AnswersBy Is whole → AnswersBy Is (by_request by list function whole)
-no_lines_by Is None list function whole h = h
-no_lines_by Is (Some field) None function whole h = h
-no_lines_by Is (Some field) (Some rows) function whole h = tt
+    (function : List Address → Result (List Address) H3Error) (otherwise : ListRequest)
+    → AnswersEach Is otherwise → AnswersEach Is (by_request by list function otherwise)
+no_lines_by Is None list function otherwise h = h
+no_lines_by Is (Some field) None function otherwise h = h
+no_lines_by Is (Some field) (Some rows) function otherwise h = tt
 
--- nor are these cut by a region
-no_lines_by_region : (Is : Answer → Type 0) (by : Option CellField) (list : Option RowOptions) (file : Option Form)
-    (function : List Address → List Address → List Address)
-    → AnswersBy Is (by_region_request by list file function)
-no_lines_by_region Is None list file function = tt
-no_lines_by_region Is (Some field) None file function = tt
-no_lines_by_region Is (Some field) (Some rows) file function = tt
+-- nor is one list of a region's cells and others, or one for each value
+no_lines_combined : (Is : Answer → Type 0) (tables : Tables) (function : List Address → List Address → List Address)
+    (region : List Address) → AnswersEach Is (combined_request tables function region)
+no_lines_combined Is tables function region =
+    no_lines_by Is tables.by tables.list (λ cells. Ok (function region cells))
+    (of_numbered itself (list_form tables.list) (λ cells. written (cell_lines (function region cells)))) tt
 
 pub answers_are_words : NamesAreFields → AnswersAreWords
 answers_are_words names tables command.CompactCells =
     no_lines_by (AreAnswerLines IsWord) tables.by tables.list compact_cells
-    (of_list (list_form tables.list) (λ cells. printed cell_lines (compact_cells cells))) tt
+    (of_whole (list_form tables.list) (λ cells. printed cell_lines (compact_cells cells))) tt
 answers_are_words names tables (command.UncompactCells res) =
     no_lines_by (AreAnswerLines IsWord) tables.by tables.list (uncompact_cells res)
-    (of_list (list_form tables.list) (λ cells. printed cell_lines (uncompact_cells res cells))) tt
+    (of_whole (list_form tables.list) (λ cells. printed cell_lines (uncompact_cells res cells))) tt
 answers_are_words names tables command.UniteCells =
     no_lines_by (AreAnswerLines IsWord) tables.by tables.list (λ cells. Ok (compacted cells))
-    (of_numbered_list itself (list_form tables.list) (λ cells. written (cell_lines (compacted cells)))) tt
+    (of_numbered itself (list_form tables.list) (λ cells. written (cell_lines (compacted cells)))) tt
 answers_are_words names tables command.IntersectCells =
-    no_lines_by_region (AreAnswerLines IsWord) tables.by tables.list (file_form tables)
-    (λ region cells. intersection cells region)
+    no_lines_combined (AreAnswerLines IsWord) tables (λ region cells. intersection cells region)
 answers_are_words names tables command.SubtractCells =
-    no_lines_by_region (AreAnswerLines IsWord) tables.by tables.list (file_form tables)
-    (λ region cells. difference cells region)
+    no_lines_combined (AreAnswerLines IsWord) tables (λ region cells. difference cells region)
 answers_are_words names tables command.AreCoveredCells =
     λ cells index. printed_lines IsWord truth_line (is_covered_cell (compacted cells) index) truth_lines
 answers_are_words names tables command.CountCellsInZones = no_lines_counted (AreAnswerLines IsWord) tables tables.areas

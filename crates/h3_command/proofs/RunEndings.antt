@@ -6,7 +6,7 @@ use Rattle.h3_streams.specs.Stream.{HasLeft}
 use Rattle.h3_table.specs.Fields.{records_of}
 use Rattle.h3_table.specs.Links.{Links}
 use Rattle.h3_table.specs.Table.{links_of, table_fault}
-use Rattle.h3_lines.specs.List.{Says, itself}
+use Rattle.h3_lines.specs.List.{Says}
 use Rattle.h3_lines.specs.Answer.{Answer}
 use Rattle.h3_lines.specs.EachLine.{EndsEach, list_answer}
 use Rattle.h3_lines.specs.Reads.{SourceUse}
@@ -16,11 +16,12 @@ use Rattle.h3_lines.specs.declared.run_error.Fault.TheVariants.{Memory, Read, Wr
 use Rattle.h3_lines.specs.declared.run_error.RunError.{RunError}
 use Rattle.h3_lines.specs.declared.run_error.RunError.TheVariants.{Error, Fault}
 use Rattle.h3_lines.specs.Write.{IsLeft, Reports, Writes}
-use Rattle.h3_command.specs.Answer.{Request, about_list, about_numbered_list, about_rows, about_table, about_table_rows, unless_faulty}
+use Rattle.h3_command.specs.Answer.{ListRequest, Request, about_list, about_numbered_list, about_rows, about_table, about_table_rows, answer_of_list, unless_faulty}
 use Rattle.h3_command.specs.Areas.{areas_of_file}
 use Rattle.h3_command.specs.Files.{file_cells, unless_refused}
-use Rattle.h3_command.specs.Answer.Request.{of_areas_and_lines, of_areas_and_list, of_areas_and_rows, of_file_and_lines, of_file_and_list, of_file_and_rows, of_lines, of_list, of_numbered_list, of_rows, of_table, of_table_and_lines, plain}
-use Rattle.h3_command.specs.Run.{Answers, Ends, EndsEntries, EndsLines, EndsList, EndsNumberedList, Gives, ReadFails, RefusesAreas, RefusesEntries, RefusesFile, RefusesInput, RefusesTableFile, Runs, RunsOutOfMemory, Streams, WritesOfRows, WritesReading}
+use Rattle.h3_command.specs.Answer.ListRequest.{of_lines, of_numbered, of_rows, of_whole}
+use Rattle.h3_command.specs.Answer.Request.{after_areas, after_file, after_table, of_list, of_table, plain}
+use Rattle.h3_command.specs.Run.{Answers, Ends, EndsEntries, EndsLines, EndsList, EndsNumberedList, EndsOfList, Gives, ReadFails, RefusesAreas, RefusesEntries, RefusesFile, RefusesInput, RefusesTableFile, Runs, RunsOutOfMemory, Streams, WritesOfRows, WritesReading}
 use Rattle.h3_rows.specs.Each.{EndsRows}
 use Rattle.h3_rows.specs.Named.{Entry}
 use Rattle.h3_rows.specs.Named.{Table as NamedTable}
@@ -249,6 +250,19 @@ with_memory : {A B : Type 0} (memory : Bool) → IsTrue memory → A ⊎ B → A
 with_memory memory takes (inl a) = inl a
 with_memory memory takes (inr b) = inr (takes, b)
 
+-- what is asked of a list
+gives_listed : (r : ListRequest) (ending : Result (Unit {0}) RunError) (status : ℕ) (s : Streams)
+    → EndsOfList r s.input ending s.out → Reports ending status s.err
+    → (list : List ℕ) × HasLeft s.input.left list
+    × ((ReadFails s.input list → ⊥) → s.out.has_failed ≡ false
+    → Gives (answer_of_list r list) status s ⊎ RunsOutOfMemory status s)
+gives_listed (of_whole form about) ending status s ends reports = gives_list form about ending status s ends reports
+gives_listed (of_numbered says form about) ending status s ends reports =
+    gives_numbered_list says form about ending status s ends reports
+gives_listed (of_lines form about) ending status s ends reports =
+    gives_lines form about ending status s ends reports
+gives_listed (of_rows table about) ending status s ends reports = gives_entries table about ending status s ends reports
+
 -- a file that is refused, or not read to its end
 gives_refused : (f : CellFile) (rows : Option Form) (about : List Address → Answer) (bytes : List ℕ)
     (ending : Result (Unit {0}) RunError)
@@ -270,12 +284,12 @@ read_after : (f : CellFile) (rows : Option Form) (bytes : List ℕ) (cells : Lis
     → IsTrue (is_ok (file_cells f rows bytes))
 read_after f rows bytes cells is = ap is_ok is
 
-list_answers : (f : CellFile) (rows form : Option Form) (about : List Address → List Address → Answer)
-    (ending : Result (Unit {0}) RunError)
-    (status : ℕ) (s : Streams) → Ends (of_file_and_list f rows form about) s.input s.table ending s.out
-    → Reports ending status s.err
-    → Answers (of_file_and_list f rows form about) status s
-list_answers f rows form about ending status s (bytes, held, inr (refuses, alone, left)) reports =
+-- the same after a file of cells
+file_answers : (f : CellFile) (rows : Option Form) (then_list : List Address → ListRequest)
+    (ending : Result (Unit {0}) RunError) (status : ℕ) (s : Streams)
+    → Ends (after_file f rows then_list) s.input s.table ending s.out → Reports ending status s.err
+    → Answers (after_file f rows then_list) status s
+file_answers f rows then_list ending status s (bytes, held, inr (refuses, alone, left)) reports =
     let (list, known) = some_left s.input.left in
     record {
       list = list;
@@ -284,49 +298,18 @@ list_answers f rows form about ending status s (bytes, held, inr (refuses, alone
       file_is = held;
       given =
           λ none. with_memory true refl (gives_refused f rows
-          (λ cells. about_numbered_list itself form (about cells) list) bytes ending status s refuses left
+          (λ cells. answer_of_list (then_list cells) list) bytes ending status s refuses left
           (none.table_read refl) reports);
     }
-list_answers f rows form about ending status s (bytes, held, inl (cells, gives, ends)) reports =
-    let (list, known, given) = gives_numbered_list itself form (about cells) ending status s ends reports in
+file_answers f rows then_list ending status s (bytes, held, inl (cells, gives, ends)) reports =
+    let (list, known, given) = gives_listed (then_list cells) ending status s ends reports in
     record {
       list = list;
       file = bytes;
       list_is = known;
       file_is = held;
       given =
-          λ none. subst (λ c. Gives
-          (unless_refused (λ cells. about_numbered_list itself form (about cells) list) c) status s
-          ⊎ (IsTrue true × RunsOutOfMemory status s)) (sym gives.is)
-          (with_memory true refl (given (none.list_read (read_after f rows bytes cells gives.is)) none.answer_written));
-    }
-
-lines_answers : (f : CellFile) (rows form : Option Form) (about : List Address → Option ℕ → Answer)
-    (ending : Result (Unit {0}) RunError)
-    (status : ℕ) (s : Streams) → Ends (of_file_and_lines f rows form about) s.input s.table ending s.out
-    → Reports ending status s.err
-    → Answers (of_file_and_lines f rows form about) status s
-lines_answers f rows form about ending status s (bytes, held, inr (refuses, alone, left)) reports =
-    let (list, known) = some_left s.input.left in
-    record {
-      list = list;
-      file = bytes;
-      list_is = known;
-      file_is = held;
-      given =
-          λ none. with_memory true refl (gives_refused f rows
-          (λ cells. listed_answer form (about cells) list) bytes ending status s refuses left
-          (none.table_read refl) reports);
-    }
-lines_answers f rows form about ending status s (bytes, held, inl (cells, gives, ends)) reports =
-    let (list, known, given) = gives_lines form (about cells) ending status s ends reports in
-    record {
-      list = list;
-      file = bytes;
-      list_is = known;
-      file_is = held;
-      given =
-          λ none. subst (λ c. Gives (unless_refused (λ cells. listed_answer form (about cells) list) c) status s
+          λ none. subst (λ c. Gives (unless_refused (λ cells. answer_of_list (then_list cells) list) c) status s
           ⊎ (IsTrue true × RunsOutOfMemory status s)) (sym gives.is)
           (with_memory true refl (given (none.list_read (read_after f rows bytes cells gives.is)) none.answer_written));
     }
@@ -353,11 +336,10 @@ read_after_table : (bytes : List ℕ) → table_fault (records_of bytes) ≡ Non
     → IsTrue (not (is_some (table_fault (records_of bytes))))
 read_after_table bytes is = ap (λ f. not (is_some f)) is
 
-table_answers : (form : Option Form) (about : Links → Option ℕ → Answer) (ending : Result (Unit {0}) RunError)
-    (status : ℕ) (s : Streams)
-    → Ends (of_table_and_lines form about) s.input s.table ending s.out → Reports ending status s.err
-    → Answers (of_table_and_lines form about) status s
-table_answers form about ending status s (bytes, held, inr (refuses, alone, left)) reports =
+table_answers : (then_list : Links → ListRequest) (ending : Result (Unit {0}) RunError) (status : ℕ) (s : Streams)
+    → Ends (after_table then_list) s.input s.table ending s.out → Reports ending status s.err
+    → Answers (after_table then_list) status s
+table_answers then_list ending status s (bytes, held, inr (refuses, alone, left)) reports =
     let (list, known) = some_left s.input.left in
     record {
       list = list;
@@ -366,11 +348,11 @@ table_answers form about ending status s (bytes, held, inr (refuses, alone, left
       file_is = held;
       given =
           λ none. with_memory true refl (gives_refused_table
-          (λ link. listed_answer form (about link) list) bytes ending status s refuses left
+          (λ link. answer_of_list (then_list link) list) bytes ending status s refuses left
           (none.table_read refl) reports);
     }
-table_answers form about ending status s (bytes, held, inl (link, gives, ends)) reports =
-    let (list, known, given) = gives_lines form (about link) ending status s ends reports in
+table_answers then_list ending status s (bytes, held, inl (link, gives, ends)) reports =
+    let (list, known, given) = gives_listed (then_list link) ending status s ends reports in
     record {
       list = list;
       file = bytes;
@@ -378,9 +360,9 @@ table_answers form about ending status s (bytes, held, inl (link, gives, ends)) 
       file_is = held;
       given =
           λ none. subst (λ f. Gives
-          (unless_faulty f (listed_answer form (about (links_of (records_of bytes))) list)) status s ⊎
+          (unless_faulty f (answer_of_list (then_list (links_of (records_of bytes))) list)) status s ⊎
           (IsTrue true × RunsOutOfMemory status s)) (sym gives.accepted)
-          (subst (λ l. Gives (listed_answer form (about l) list) status s ⊎ (IsTrue true × RunsOutOfMemory status s))
+          (subst (λ l. Gives (answer_of_list (then_list l) list) status s ⊎ (IsTrue true × RunsOutOfMemory status s))
           gives.is
           (with_memory true refl (given (none.list_read (read_after_table bytes gives.accepted)) none.answer_written)));
     }
@@ -406,75 +388,11 @@ read_after_areas : (overlapping : Bool) (table : NamedTable) (bytes : List ℕ) 
     → areas_of_file overlapping table bytes ≡ Ok entries → IsTrue (is_ok (areas_of_file overlapping table bytes))
 read_after_areas overlapping table bytes entries is = ap is_ok is
 
-areas_answers : (overlapping : Bool) (table : NamedTable) (form : List Entry → Option Form)
-    (about : List Entry → Option ℕ → Answer) (ending : Result (Unit {0}) RunError) (status : ℕ) (s : Streams)
-    → Ends (of_areas_and_lines overlapping table form about) s.input s.table ending s.out → Reports ending status s.err
-    → Answers (of_areas_and_lines overlapping table form about) status s
-areas_answers overlapping table form about ending status s (bytes, held, inr (refuses, alone, left)) reports =
-    let (list, known) = some_left s.input.left in
-    record {
-      list = list;
-      file = bytes;
-      list_is = known;
-      file_is = held;
-      given =
-          λ none. with_memory true refl (gives_refused_areas overlapping table
-          (λ entries. listed_answer (form entries) (about entries) list) bytes ending status s refuses left
-          (none.table_read refl) reports);
-    }
-areas_answers overlapping table form about ending status s (bytes, held, inl (entries, gives, ends)) reports =
-    let (list, known, given) = gives_lines (form entries) (about entries) ending status s ends reports in
-    record {
-      list = list;
-      file = bytes;
-      list_is = known;
-      file_is = held;
-      given =
-          λ none. subst (λ c. Gives
-          (unless_refused (λ entries. listed_answer (form entries) (about entries) list) c) status s ⊎
-          (IsTrue true × RunsOutOfMemory status s)) (sym gives.is)
-          (with_memory true refl
-          (given (none.list_read (read_after_areas overlapping table bytes entries gives.is)) none.answer_written));
-    }
-
--- the same where the cells of the list are answered as a whole
-area_list_answers : (overlapping : Bool) (table : NamedTable) (form : Option Form)
-    (about : List Entry → List Address → Answer) (ending : Result (Unit {0}) RunError) (status : ℕ) (s : Streams)
-    → Ends (of_areas_and_list overlapping table form about) s.input s.table ending s.out → Reports ending status s.err
-    → Answers (of_areas_and_list overlapping table form about) status s
-area_list_answers overlapping table form about ending status s (bytes, held, inr (refuses, alone, left)) reports =
-    let (list, known) = some_left s.input.left in
-    record {
-      list = list;
-      file = bytes;
-      list_is = known;
-      file_is = held;
-      given =
-          λ none. with_memory true refl (gives_refused_areas overlapping table
-          (λ entries. about_numbered_list itself form (about entries) list) bytes ending status s refuses left
-          (none.table_read refl) reports);
-    }
-area_list_answers overlapping table form about ending status s (bytes, held, inl (entries, gives, ends)) reports =
-    let (list, known, given) = gives_numbered_list itself form (about entries) ending status s ends reports in
-    record {
-      list = list;
-      file = bytes;
-      list_is = known;
-      file_is = held;
-      given =
-          λ none. subst (λ c. Gives
-          (unless_refused (λ entries. about_numbered_list itself form (about entries) list) c) status s ⊎
-          (IsTrue true × RunsOutOfMemory status s)) (sym gives.is)
-          (with_memory true refl
-          (given (none.list_read (read_after_areas overlapping table bytes entries gives.is)) none.answer_written));
-    }
-
--- the same where a second field of the list's rows is read too
-area_rows_answers : (overlapping : Bool) (areas table : NamedTable) (about : List Entry → List Entry → Answer)
+areas_answers : (overlapping : Bool) (table : NamedTable) (then_list : List Entry → ListRequest)
     (ending : Result (Unit {0}) RunError) (status : ℕ) (s : Streams)
-    → Ends (of_areas_and_rows overlapping areas table about) s.input s.table ending s.out → Reports ending status s.err
-    → Answers (of_areas_and_rows overlapping areas table about) status s
-area_rows_answers overlapping areas table about ending status s (bytes, held, inr (refuses, alone, left)) reports =
+    → Ends (after_areas overlapping table then_list) s.input s.table ending s.out → Reports ending status s.err
+    → Answers (after_areas overlapping table then_list) status s
+areas_answers overlapping table then_list ending status s (bytes, held, inr (refuses, alone, left)) reports =
     let (list, known) = some_left s.input.left in
     record {
       list = list;
@@ -482,52 +400,23 @@ area_rows_answers overlapping areas table about ending status s (bytes, held, in
       list_is = known;
       file_is = held;
       given =
-          λ none. with_memory true refl (gives_refused_areas overlapping areas
-          (λ entries. about_table_rows table (about entries) list) bytes ending status s refuses left
+          λ none. with_memory true refl (gives_refused_areas overlapping table
+          (λ entries. answer_of_list (then_list entries) list) bytes ending status s refuses left
           (none.table_read refl) reports);
     }
-area_rows_answers overlapping areas table about ending status s (bytes, held, inl (entries, gives, ends)) reports =
-    let (list, known, given) = gives_entries table (about entries) ending status s ends reports in
+areas_answers overlapping table then_list ending status s (bytes, held, inl (entries, gives, ends)) reports =
+    let (list, known, given) = gives_listed (then_list entries) ending status s ends reports in
     record {
       list = list;
       file = bytes;
       list_is = known;
       file_is = held;
       given =
-          λ none. subst (λ c. Gives (unless_refused (λ entries. about_table_rows table (about entries) list) c) status s
-          ⊎ (IsTrue true × RunsOutOfMemory status s)) (sym gives.is)
+          λ none. subst (λ c. Gives
+          (unless_refused (λ entries. answer_of_list (then_list entries) list) c) status s ⊎
+          (IsTrue true × RunsOutOfMemory status s)) (sym gives.is)
           (with_memory true refl
-          (given (none.list_read (read_after_areas overlapping areas bytes entries gives.is)) none.answer_written));
-    }
-
--- the same after a file of cells
-file_rows_answers : (f : CellFile) (rows : Option Form) (table : NamedTable)
-    (about : List Address → List Entry → Answer) (ending : Result (Unit {0}) RunError) (status : ℕ) (s : Streams)
-    → Ends (of_file_and_rows f rows table about) s.input s.table ending s.out → Reports ending status s.err
-    → Answers (of_file_and_rows f rows table about) status s
-file_rows_answers f rows table about ending status s (bytes, held, inr (refuses, alone, left)) reports =
-    let (list, known) = some_left s.input.left in
-    record {
-      list = list;
-      file = bytes;
-      list_is = known;
-      file_is = held;
-      given =
-          λ none. with_memory true refl (gives_refused f rows
-          (λ cells. about_table_rows table (about cells) list) bytes ending status s refuses left
-          (none.table_read refl) reports);
-    }
-file_rows_answers f rows table about ending status s (bytes, held, inl (cells, gives, ends)) reports =
-    let (list, known, given) = gives_entries table (about cells) ending status s ends reports in
-    record {
-      list = list;
-      file = bytes;
-      list_is = known;
-      file_is = held;
-      given =
-          λ none. subst (λ c. Gives (unless_refused (λ cells. about_table_rows table (about cells) list) c) status s
-          ⊎ (IsTrue true × RunsOutOfMemory status s)) (sym gives.is)
-          (with_memory true refl (given (none.list_read (read_after f rows bytes cells gives.is)) none.answer_written));
+          (given (none.list_read (read_after_areas overlapping table bytes entries gives.is)) none.answer_written));
     }
 
 answers : (r : Request) (ending : Result (Unit {0}) RunError) (status : ℕ) (s : Streams)
@@ -543,40 +432,7 @@ answers (plain a) ending status s writes reports =
       given =
           λ none. inl (gives_written a ending status s writes none.answer_written reports);
     }
-answers (of_list form about) ending status s ends reports =
-    let (list, held, given) = gives_list form about ending status s ends reports in
-    let (file, kept) = some_left s.table.left in
-    record {
-      list = list;
-      file = file;
-      list_is = held;
-      file_is = kept;
-      given =
-          λ none. with_memory true refl (given (none.list_read refl) none.answer_written);
-    }
-answers (of_numbered_list says form about) ending status s ends reports =
-    let (list, held, given) = gives_numbered_list says form about ending status s ends reports in
-    let (file, kept) = some_left s.table.left in
-    record {
-      list = list;
-      file = file;
-      list_is = held;
-      file_is = kept;
-      given =
-          λ none. with_memory true refl (given (none.list_read refl) none.answer_written);
-    }
-answers (of_lines form about) ending status s ends reports =
-    let (list, held, given) = gives_lines form about ending status s ends reports in
-    let (file, kept) = some_left s.table.left in
-    record {
-      list = list;
-      file = file;
-      list_is = held;
-      file_is = kept;
-      given =
-          λ none. with_memory true refl (given (none.list_read refl) none.answer_written);
-    }
-answers (of_table about) ending status s (file, held, writes, whole) reports =
+answers (of_table about) ending status s (file, held, writes, all) reports =
     let (list, kept) = some_left s.input.left in
     record {
       list = list;
@@ -587,18 +443,8 @@ answers (of_table about) ending status s (file, held, writes, whole) reports =
           λ none. with_memory true refl
           (gives_reading _ file _ s.table ending status s writes (none.table_read refl) none.answer_written reports);
     }
-answers (of_file_and_list f rows form about) ending status s ends reports =
-    list_answers f rows form about ending status s ends reports
-answers (of_file_and_lines f rows form about) ending status s ends reports =
-    lines_answers f rows form about ending status s ends reports
-answers (of_table_and_lines form about) ending status s ends reports =
-    table_answers form about ending status s ends reports
-answers (of_areas_and_lines overlapping table form about) ending status s ends reports =
-    areas_answers overlapping table form about ending status s ends reports
-answers (of_areas_and_list overlapping table form about) ending status s ends reports =
-    area_list_answers overlapping table form about ending status s ends reports
-answers (of_rows table about) ending status s ends reports =
-    let (list, held, given) = gives_entries table about ending status s ends reports in
+answers (of_list r) ending status s ends reports =
+    let (list, held, given) = gives_listed r ending status s ends reports in
     let (file, kept) = some_left s.table.left in
     record {
       list = list;
@@ -608,10 +454,12 @@ answers (of_rows table about) ending status s ends reports =
       given =
           λ none. with_memory true refl (given (none.list_read refl) none.answer_written);
     }
-answers (of_file_and_rows f rows table about) ending status s ends reports =
-    file_rows_answers f rows table about ending status s ends reports
-answers (of_areas_and_rows overlapping areas table about) ending status s ends reports =
-    area_rows_answers overlapping areas table about ending status s ends reports
+answers (after_table then_list) ending status s ends reports =
+    table_answers then_list ending status s ends reports
+answers (after_file f rows then_list) ending status s ends reports =
+    file_answers f rows then_list ending status s ends reports
+answers (after_areas overlapping table then_list) ending status s ends reports =
+    areas_answers overlapping table then_list ending status s ends reports
 
 -- a run ends so, and reports it
 pub run_meets_contract : (r : Request) (ending : Result (Unit {0}) RunError) (status : ℕ) (s : Streams)

@@ -197,7 +197,8 @@ sums_placed zones amounts =
     let texts = zone_texts zones in
     let areas = placed 0 zones in
     let last : none_sum (codes "0") areas amounts ≡ outside_sum zones amounts =
-    ap (λ l. record { name = codes "0"; count = count_outside l (cells_in amounts); units = sum_outside l amounts }) (placed_cells 0 zones) in
+    ap (λ l. record { name = codes "0"; count = count_outside l (cells_in amounts); units = sum_outside l amounts })
+    (placed_cells 0 zones) in
     ap (λ n. map (area_sum texts areas amounts) (range_with_len 0 n) ++ none_sum (codes "0") areas amounts ∷ [])
     (length-map zones (λ z. text_of (number_of z)))
     ∙ ap (λ l. l ++ none_sum (codes "0") areas amounts ∷ []) (sym (rows_placed zones amounts))
@@ -210,7 +211,11 @@ pub sums_ordered : (listed ordered : List Address) (amounts : List Amount) → o
 sums_ordered listed ordered amounts is covered =
     let tests : (λ x. not (is_covered ordered x)) ≡ (λ x. not (is_covered listed x)) =
     fun_ext (λ x. ap not (covered x)) in
-    ap (λ (t : Address → Bool). map (zone_sum amounts) ordered ++ record { name = codes "0"; count = count_by t (cells_in amounts); units = sum_where t amounts } ∷ []) tests
+    ap
+    (λ (t : Address → Bool).
+    map (zone_sum amounts) ordered
+    ++ record { name = codes "0"; count = count_by t (cells_in amounts); units = sum_where t amounts } ∷ [])
+    tests
     ∙ ap (λ l. map (zone_sum amounts) l ++ outside_sum listed amounts ∷ []) is
 
 -- ---- what is printed adds up

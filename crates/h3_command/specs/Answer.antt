@@ -34,7 +34,6 @@ use Rattle.h3_command.specs.ParentSums.{parent_sums_answer}
 use Rattle.h3_command.specs.Parents.{parent_at, parent_counts_answer}
 use Rattle.h3_command.specs.TableLists.{destination_answer}
 use Rattle.h3_requests.specs.declared.command.IndexFunction.{IndexFunction}
-use Rattle.h3_requests.specs.declared.command.IndexFunction.TheVariants as each
 use Rattle.h3_requests.specs.declared.command.Command.{Command}
 use Rattle.h3_requests.specs.declared.command.Command.TheVariants as command
 use Rattle.h3_requests.specs.declared.rows.AreaOptions.{AreaOptions}
@@ -50,31 +49,25 @@ use Rattle.h3_command.specs.SumAnswers.{area_sums_answer}
 use Rattle.h3_command.specs.Rows.{area_form, file_form, list_form, list_form_as, listed_answer, pair_form, rows_form}
 use Rattle.h3_command.specs.ZoneSums.{zone_sums_answer}
 
--- Request: what a command reads and writes: an answer that its words alone fix, one about the cells listed on standard
--- input, also with the number of a faulty line, and then with what is taken for the index of a line, one for each line
--- of it, or one about the links of a base cell table;
--- or one about the cells of a file, and then the cells listed on standard input, or for each line of it; or one about
--- the links of a table, and then for each line of the list; or one about the areas of a table of zones with names, and
--- then for each line of the list, or about the cells listed there. The file of cells and the list may have rows in a
--- form, each in its own, in place of bare lines: the file's form comes first. After a table of zones with names the
--- form of a list that is answered line by line depends on that table: its header has the name of the new column. Before
--- that table stands whether its areas may overlap. A list of rows of which a second field is read too is a table, as
--- that of zones with names is, and is answered as a whole: alone, after a file of cells, or after a table of zones with
--- names.
+-- ListRequest: what is asked of a list on standard input, which is bare or has rows in a form: an answer about its
+-- cells as a whole; the same, where an error of a bare list is reported with its line, and this is taken for the index
+-- of a line; an answer to each of its lines or rows; or one about its rows, of which a second field is read too
+pub data ListRequest : Type 0 where
+  of_whole : Option Form → (List Address → Answer) → ListRequest
+  of_numbered : Says → Option Form → (List Address → Answer) → ListRequest
+  of_lines : Option Form → (Option ℕ → Answer) → ListRequest
+  of_rows : Table → (List Entry → Answer) → ListRequest
+
+-- Request: what a command reads and writes: an answer that its words alone fix; one about the links of a base cell
+-- table; or what is asked of the list, alone or once something else is read: the links of a table, a file of cells,
+-- which may have rows in a form, or a table of zones with names, whose areas may overlap if that is said
 pub data Request : Type 0 where
   plain : Answer → Request
-  of_list : Option Form → (List Address → Answer) → Request
-  of_numbered_list : Says → Option Form → (List Address → Answer) → Request
-  of_lines : Option Form → (Option ℕ → Answer) → Request
   of_table : (Links → Answer) → Request
-  of_file_and_list : CellFile → Option Form → Option Form → (List Address → List Address → Answer) → Request
-  of_file_and_lines : CellFile → Option Form → Option Form → (List Address → Option ℕ → Answer) → Request
-  of_table_and_lines : Option Form → (Links → Option ℕ → Answer) → Request
-  of_areas_and_lines : Bool → Table → (List Entry → Option Form) → (List Entry → Option ℕ → Answer) → Request
-  of_areas_and_list : Bool → Table → Option Form → (List Entry → List Address → Answer) → Request
-  of_rows : Table → (List Entry → Answer) → Request
-  of_file_and_rows : CellFile → Option Form → Table → (List Address → List Entry → Answer) → Request
-  of_areas_and_rows : Bool → Table → Table → (List Entry → List Entry → Answer) → Request
+  of_list : ListRequest → Request
+  after_table : (Links → ListRequest) → Request
+  after_file : CellFile → Option Form → (List Address → ListRequest) → Request
+  after_areas : Bool → Table → (List Entry → ListRequest) → Request
 
 -- with_table about r: the request about a value and a table; where there is an error in place of the value, the answer
 -- is that error, and the table is not read
@@ -99,10 +92,12 @@ answer_for function word = answer_or_error (λ h. shown (outcome_of function h))
 -- zones have names
 abbrev pub zones_request : Tables → Option AreaOptions → Request
 zones_request tables None =
-    of_file_and_lines Zones (file_form tables) (rows_form tables.list (codes "zone")) zone_answer
+    after_file Zones (file_form tables)
+    (λ zones. of_lines (rows_form tables.list (codes "zone")) (zone_answer zones))
 zones_request tables (Some areas) =
-    of_areas_and_lines areas.overlapping (names_table areas.table) (area_form tables.list areas.table.rows.quotes)
-    (area_answer areas.table.rows.quotes (string_bytes areas.none))
+    after_areas areas.overlapping (names_table areas.table)
+    (λ entries. of_lines (area_form tables.list areas.table.rows.quotes entries)
+    (area_answer areas.table.rows.quotes (string_bytes areas.none) entries))
 
 -- summed list field: the rows of a list and the field of their numbers, if the list has rows and the field is given
 abbrev pub summed : Option RowOptions → Option CellField → Option (RowOptions × CellField)
@@ -113,18 +108,20 @@ summed (Some list) (Some field) = Some (list, field)
 -- area_counts_request areas list sum: what is read and written for the counts of cells in areas, and of their numbers
 abbrev pub area_counts_request : AreaOptions → Option RowOptions → Option (RowOptions × CellField) → Request
 area_counts_request areas list None =
-    of_areas_and_list areas.overlapping (names_table areas.table) (list_form list) (area_counts_answer areas list)
+    after_areas areas.overlapping (names_table areas.table)
+    (λ entries. of_numbered itself (list_form list) (area_counts_answer areas list entries))
 area_counts_request areas list (Some sum) =
-    of_areas_and_rows areas.overlapping (names_table areas.table) (table_of sum.0 sum.1 content.Number)
-    (area_sums_answer areas sum.0)
+    after_areas areas.overlapping (names_table areas.table)
+    (λ entries. of_rows (table_of sum.0 sum.1 content.Number) (area_sums_answer areas sum.0 entries))
 
 -- zone_counts_request tables sum: what is read and written for the counts of cells in zones without names, and of their
 -- numbers
 abbrev pub zone_counts_request : Tables → Option (RowOptions × CellField) → Request
-zone_counts_request tables None = of_file_and_list Zones (file_form tables) (list_form tables.list) counts_answer
+zone_counts_request tables None =
+    after_file Zones (file_form tables) (λ zones. of_numbered itself (list_form tables.list) (counts_answer zones))
 zone_counts_request tables (Some sum) =
-    of_file_and_rows Zones (file_form tables) (table_of sum.0 sum.1 content.Number)
-    (zone_sums_answer tables.file sum.0)
+    after_file Zones (file_form tables)
+    (λ zones. of_rows (table_of sum.0 sum.1 content.Number) (zone_sums_answer tables.file sum.0 zones))
 
 -- counts_request tables areas: what is read and written for the counts of cells: how many lie in each zone, or, if the
 -- zones have names, in each area
@@ -132,85 +129,41 @@ abbrev pub counts_request : Tables → Option AreaOptions → Request
 counts_request tables None = zone_counts_request tables (summed tables.list tables.sum)
 counts_request tables (Some areas) = area_counts_request areas tables.list (summed tables.list tables.sum)
 
--- parents_request r list sum: what is read and written for the counts of cells by their ancestors at a resolution, and
--- of their numbers
-abbrev pub parents_request : ℤ → Option RowOptions → Option (RowOptions × CellField) → Request
+-- parents_request r list sum: what is asked of a list for the counts of its cells by their ancestors at a resolution,
+-- and of their numbers
+abbrev pub parents_request : ℤ → Option RowOptions → Option (RowOptions × CellField) → ListRequest
 parents_request res list None =
-    of_numbered_list (parent_at res) (list_form_as (parent_at res) list) (parent_counts_answer list)
+    of_numbered (parent_at res) (list_form_as (parent_at res) list) (parent_counts_answer list)
 parents_request res list (Some sum) =
     of_rows (table_as (parent_at res) sum.0 sum.1 content.Number) (parent_sums_answer sum.0)
 
--- by_request by list function whole: what a command reads and writes that answers about the cells of a list by a
--- function: if a field divides the list's rows, about those of each of the field's values; or else what is given
-abbrev pub by_request : Option CellField → Option RowOptions → (List Address → Result (List Address) H3Error) → Request
-    → Request
-by_request None list function whole = whole
-by_request (Some field) None function whole = whole
-by_request (Some field) (Some rows) function whole =
+-- by_request by list function otherwise: what is asked of a list for an answer about its cells by a function: if a
+-- field divides the list's rows, about those of each of the field's values; or else what is given
+abbrev pub by_request : Option CellField → Option RowOptions → (List Address → Result (List Address) H3Error)
+    → ListRequest → ListRequest
+by_request None list function otherwise = otherwise
+by_request (Some field) None function otherwise = otherwise
+by_request (Some field) (Some rows) function otherwise =
     of_rows (table_of rows field content.Text) (by_answer rows function)
 
--- region_request list file function: what a command reads and writes that makes one list of the cells of a region's
--- file
--- and those of a list: the file is read first
-abbrev pub region_request : Option RowOptions → Option Form → (List Address → List Address → List Address) → Request
-region_request list file function =
-    of_file_and_list Region file (list_form list) (λ region cells. written (cell_lines (function region cells)))
-
--- by_region_request by list file function: what a command reads and writes that makes lists of the cells of a region's
--- file and those of a list by a function: one of all of them; or, if a field divides the list's rows, for each of the
--- field's values one of the file's cells and those of the value. The file is read first.
-abbrev pub by_region_request : Option CellField → Option RowOptions → Option Form
-    → (List Address → List Address → List Address) → Request
-by_region_request None list file function = region_request list file function
-by_region_request (Some field) None file function = region_request None file function
-by_region_request (Some field) (Some rows) file function =
-    of_file_and_rows Region file (table_of rows field content.Text)
-    (λ region. by_answer rows (λ cells. Ok (function region cells)))
+-- combined_request tables function region: what is asked of a list for one list of its cells and a region's; or, if a
+-- field divides its rows, for one of the region's cells and those of each of the field's values
+abbrev pub combined_request : Tables → (List Address → List Address → List Address) → List Address → ListRequest
+combined_request tables function region =
+    by_request tables.by tables.list (λ cells. Ok (function region cells))
+    (of_numbered itself (list_form tables.list) (λ cells. written (cell_lines (function region cells))))
 
 -- request_of tables command: what a command reads and writes, of which the list and the file of cells have rows, or
--- bare lines: an answer that its words alone fix, one about the cells listed on standard input, or those of rows, the
--- same with the number of a faulty line, one line by line about the indexes listed there, or row by row, one about
--- the links of a table, one about the cells of a file and then about the list, or about each of its lines or rows, or
--- one about the links of a table, or the areas of one, and then about each line or row of the list
+-- bare lines
 abbrev pub request_of : Tables → Command → Request
-request_of tables (command.IsValidCell cell) = plain (answer_for each.IsValidCell cell)
-request_of tables (command.GetResolution cell) = plain (answer_for each.GetResolution cell)
-request_of tables (command.GetBaseCellNumber cell) = plain (answer_for each.GetBaseCellNumber cell)
-request_of tables (command.IsPentagon cell) = plain (answer_for each.IsPentagon cell)
-request_of tables (command.IsResClassIII cell) = plain (answer_for each.IsResClassIII cell)
+request_of tables (command.ForOne function index) = plain (answer_for function index)
 request_of tables (command.GetNumCells res) = plain (printed number_line (get_num_cells res))
 request_of tables command.GetRes0Cells = plain (written (cell_lines get_res0_cells))
 request_of tables (command.GetPentagons res) = plain (printed cell_lines (get_pentagons res))
-request_of tables (command.CellToParent cell res) = plain (answer_for (each.CellToParent res) cell)
-request_of tables (command.CellToCenterChild cell res) = plain (answer_for (each.CellToCenterChild res) cell)
-request_of tables (command.CellToLastChild cell res) = plain (answer_for (each.CellToLastChild res) cell)
 request_of tables (command.CellToChildren cell res) =
     plain (printed cell_lines (for_value (λ h. cell_to_children h res) (index_given cell)))
-request_of tables (command.CellToChildrenSize cell res) = plain (answer_for (each.CellToChildrenSize res) cell)
-request_of tables (command.CellToChildPos cell res) = plain (answer_for (each.CellToChildPos res) cell)
 request_of tables (command.ChildPosToCell position cell res) =
     plain (printed cell_line (for_value (λ h. child_pos_to_cell position h res) (index_given cell)))
-request_of tables command.CompactCells =
-    by_request tables.by tables.list compact_cells
-    (of_list (list_form tables.list) (λ cells. printed cell_lines (compact_cells cells)))
-request_of tables (command.UncompactCells res) =
-    by_request tables.by tables.list (uncompact_cells res)
-    (of_list (list_form tables.list) (λ cells. printed cell_lines (uncompact_cells res cells)))
-request_of tables (command.UncompactCellsSize res) =
-    of_numbered_list itself (list_form tables.list) (λ cells. printed number_line (uncompact_cells_size res cells))
-request_of tables command.UniteCells =
-    by_request tables.by tables.list (λ cells. Ok (compacted cells))
-    (of_numbered_list itself (list_form tables.list) (λ cells. written (cell_lines (compacted cells))))
-request_of tables command.IntersectCells =
-    by_region_request tables.by tables.list (file_form tables) (λ region cells. intersection cells region)
-request_of tables command.SubtractCells =
-    by_region_request tables.by tables.list (file_form tables) (λ region cells. difference cells region)
-request_of tables command.AreCoveredCells =
-    of_file_and_lines Region (file_form tables) (rows_form tables.list (codes "isCovered")) covered_answer
-request_of tables command.CellsToZones = zones_request tables tables.areas
-request_of tables command.CountCellsInZones = counts_request tables tables.areas
-request_of tables (command.CountCellsInParents res) =
-    parents_request res tables.list (summed tables.list tables.sum)
 request_of tables (command.GridDiskUnsafe cell k) =
     with_table (λ c link. answer_or_error (walked cell_line) (grid_disk_unsafe link c k)) (cell_given cell)
 request_of tables (command.GridDiskDistancesUnsafe cell k) =
@@ -223,23 +176,43 @@ request_of tables (command.AreNeighborCells cell to) =
 request_of tables (command.CellsToDirectedEdge cell to) =
     with_table (λ cells link. printed edge_line (cells_to_directed_edge link cells))
     (pair_of (cell_given cell) (cell_given to))
-request_of tables (command.IsValidDirectedEdge edge) = plain (answer_for each.IsValidDirectedEdge edge)
-request_of tables (command.GetDirectedEdgeOrigin edge) = plain (answer_for each.GetDirectedEdgeOrigin edge)
 request_of tables (command.GetDirectedEdgeDestination edge) =
     with_table (λ e link. printed cell_line (get_directed_edge_destination link e)) (edge_given edge)
-request_of tables (command.OriginToDirectedEdges cell) = plain (answer_for each.OriginToDirectedEdges cell)
-request_of tables (command.CellsToChildren res) =
-    of_lines (rows_form tables.list (codes "cellToChildren")) (children_for res)
-request_of tables (command.GridDisksUnsafe k) =
-    of_table_and_lines (rows_form tables.list (codes "gridDiskUnsafe")) (λ link. disk_for link k)
-request_of tables (command.GridDisksDistancesUnsafe k) =
-    of_table_and_lines (pair_form tables.list) (λ link. disk_distances_for (between_parts tables.list) link k)
-request_of tables (command.GridRingsUnsafe k) =
-    of_table_and_lines (rows_form tables.list (codes "gridRingUnsafe")) (λ link. ring_for link k)
-request_of tables command.GetDirectedEdgeDestinations =
-    of_table_and_lines (rows_form tables.list (codes "getDirectedEdgeDestination")) destination_answer
 request_of tables (command.ForEach function) =
-    of_lines (rows_form tables.list (function_name function)) (answer_for function)
+    of_list (of_lines (rows_form tables.list (function_name function)) (answer_for function))
+request_of tables (command.CellsToChildren res) =
+    of_list (of_lines (rows_form tables.list (codes "cellToChildren")) (children_for res))
+request_of tables command.CompactCells =
+    of_list (by_request tables.by tables.list compact_cells
+    (of_whole (list_form tables.list) (λ cells. printed cell_lines (compact_cells cells))))
+request_of tables (command.UncompactCells res) =
+    of_list (by_request tables.by tables.list (uncompact_cells res)
+    (of_whole (list_form tables.list) (λ cells. printed cell_lines (uncompact_cells res cells))))
+request_of tables (command.UncompactCellsSize res) =
+    of_list (of_numbered itself (list_form tables.list) (λ cells. printed number_line (uncompact_cells_size res cells)))
+request_of tables command.UniteCells =
+    of_list (by_request tables.by tables.list (λ cells. Ok (compacted cells))
+    (of_numbered itself (list_form tables.list) (λ cells. written (cell_lines (compacted cells)))))
+request_of tables (command.CountCellsInParents res) =
+    of_list (parents_request res tables.list (summed tables.list tables.sum))
+request_of tables command.IntersectCells =
+    after_file Region (file_form tables) (combined_request tables (λ region cells. intersection cells region))
+request_of tables command.SubtractCells =
+    after_file Region (file_form tables) (combined_request tables (λ region cells. difference cells region))
+request_of tables command.AreCoveredCells =
+    after_file Region (file_form tables)
+    (λ region. of_lines (rows_form tables.list (codes "isCovered")) (covered_answer region))
+request_of tables command.CellsToZones = zones_request tables tables.areas
+request_of tables command.CountCellsInZones = counts_request tables tables.areas
+request_of tables (command.GridDisksUnsafe k) =
+    after_table (λ link. of_lines (rows_form tables.list (codes "gridDiskUnsafe")) (disk_for link k))
+request_of tables (command.GridDisksDistancesUnsafe k) =
+    after_table (λ link. of_lines (pair_form tables.list) (disk_distances_for (between_parts tables.list) link k))
+request_of tables (command.GridRingsUnsafe k) =
+    after_table (λ link. of_lines (rows_form tables.list (codes "gridRingUnsafe")) (ring_for link k))
+request_of tables command.GetDirectedEdgeDestinations =
+    after_table
+    (λ link. of_lines (rows_form tables.list (codes "getDirectedEdgeDestination")) (destination_answer link))
 
 -- request command: the same of a command whose list and file have bare lines
 abbrev pub request : Command → Request
@@ -250,62 +223,37 @@ request c =
 -- reads_list r: the request reads the list
 abbrev pub reads_list : Request → Bool
 reads_list (plain a) = false
-reads_list (of_list form about) = true
-reads_list (of_numbered_list says form about) = true
-reads_list (of_lines form about) = true
 reads_list (of_table about) = false
-reads_list (of_file_and_list f rows form about) = true
-reads_list (of_file_and_lines f rows form about) = true
-reads_list (of_table_and_lines form about) = true
-reads_list (of_areas_and_lines overlapping table form about) = true
-reads_list (of_areas_and_list overlapping table form about) = true
-reads_list (of_rows table about) = true
-reads_list (of_file_and_rows f rows table about) = true
-reads_list (of_areas_and_rows overlapping areas table about) = true
+reads_list (of_list list) = true
+reads_list (after_table then_list) = true
+reads_list (after_file f rows then_list) = true
+reads_list (after_areas overlapping table then_list) = true
 
 -- reads_table r: it reads the table, or a file of cells in its place
 abbrev pub reads_table : Request → Bool
 reads_table (plain a) = false
-reads_table (of_list form about) = false
-reads_table (of_numbered_list says form about) = false
-reads_table (of_lines form about) = false
 reads_table (of_table about) = true
-reads_table (of_file_and_list f rows form about) = true
-reads_table (of_file_and_lines f rows form about) = true
-reads_table (of_table_and_lines form about) = true
-reads_table (of_areas_and_lines overlapping table form about) = true
-reads_table (of_areas_and_list overlapping table form about) = true
-reads_table (of_rows table about) = false
-reads_table (of_file_and_rows f rows table about) = true
-reads_table (of_areas_and_rows overlapping areas table about) = true
+reads_table (of_list list) = false
+reads_table (after_table then_list) = true
+reads_table (after_file f rows then_list) = true
+reads_table (after_areas overlapping table then_list) = true
 
--- the list is read where the bytes of the table, or of the file of cells, are these: not where the file is refused that
--- comes before it
+-- reads_list_after r file: the list is read where the bytes of the table, or of the file of cells, are these: not where
+-- the file is refused that comes before it
 abbrev pub reads_list_after : Request → List ℕ → Bool
-reads_list_after (of_file_and_list f rows form about) file = is_ok (file_cells f rows file)
-reads_list_after (of_file_and_lines f rows form about) file = is_ok (file_cells f rows file)
-reads_list_after (of_table_and_lines form about) file = not (is_some (table_fault (records_of file)))
-reads_list_after (of_areas_and_lines overlapping table form about) file = is_ok (areas_of_file overlapping table file)
-reads_list_after (of_areas_and_list overlapping table form about) file = is_ok (areas_of_file overlapping table file)
-reads_list_after (of_file_and_rows f rows table about) file = is_ok (file_cells f rows file)
-reads_list_after (of_areas_and_rows overlapping areas table about) file = is_ok (areas_of_file overlapping areas file)
+reads_list_after (after_table then_list) file = not (is_some (table_fault (records_of file)))
+reads_list_after (after_file f rows then_list) file = is_ok (file_cells f rows file)
+reads_list_after (after_areas overlapping table then_list) file = is_ok (areas_of_file overlapping table file)
 reads_list_after r file = reads_list r
 
 -- takes_memory r: it takes memory
 abbrev pub takes_memory : Request → Bool
 takes_memory (plain a) = false
-takes_memory (of_list form about) = true
-takes_memory (of_numbered_list says form about) = true
-takes_memory (of_lines form about) = true
 takes_memory (of_table about) = true
-takes_memory (of_file_and_list f rows form about) = true
-takes_memory (of_file_and_lines f rows form about) = true
-takes_memory (of_table_and_lines form about) = true
-takes_memory (of_areas_and_lines overlapping table form about) = true
-takes_memory (of_areas_and_list overlapping table form about) = true
-takes_memory (of_rows table about) = true
-takes_memory (of_file_and_rows f rows table about) = true
-takes_memory (of_areas_and_rows overlapping areas table about) = true
+takes_memory (of_list list) = true
+takes_memory (after_table then_list) = true
+takes_memory (after_file f rows then_list) = true
+takes_memory (after_areas overlapping table then_list) = true
 
 -- ---- the answer
 
@@ -346,29 +294,24 @@ about_numbered_list says (Some form) about list = about_rows form about list
 abbrev pub about_table_rows : Table → (List Entry → Answer) → List ℕ → Answer
 about_table_rows table about list = unless_refused about (named_cells table (rows_of table.form.quotes list))
 
+-- answer_of_list r list: what is answered to what is asked of a list, for its bytes
+abbrev pub answer_of_list : ListRequest → List ℕ → Answer
+answer_of_list (of_whole form about) list = about_list form about list
+answer_of_list (of_numbered says form about) list = about_numbered_list says form about list
+answer_of_list (of_lines form about) list = listed_answer form about list
+answer_of_list (of_rows table about) list = about_table_rows table about list
+
 -- answer_to r list file: the answer to a request, for the bytes of its list and those of its table, or of a file of
 -- cells in its place: where a file that comes before the list is refused, the list has no part in the answer
 abbrev pub answer_to : Request → List ℕ → List ℕ → Answer
 answer_to (plain a) list file = a
-answer_to (of_list form about) list file = about_list form about list
-answer_to (of_numbered_list says form about) list file = about_numbered_list says form about list
-answer_to (of_lines form about) list file = listed_answer form about list
 answer_to (of_table about) list file = about_table about file
-answer_to (of_file_and_list f rows form about) list file =
-    unless_refused (λ cells. about_numbered_list itself form (about cells) list) (file_cells f rows file)
-answer_to (of_file_and_lines f rows form about) list file =
-    unless_refused (λ cells. listed_answer form (about cells) list) (file_cells f rows file)
-answer_to (of_table_and_lines form about) list file = about_table (λ link. listed_answer form (about link) list) file
-answer_to (of_areas_and_lines overlapping table form about) list file =
-    unless_refused (λ entries. listed_answer (form entries) (about entries) list) (areas_of_file overlapping table file)
-answer_to (of_areas_and_list overlapping table form about) list file =
-    unless_refused (λ entries. about_numbered_list itself form (about entries) list)
-    (areas_of_file overlapping table file)
-answer_to (of_rows table about) list file = about_table_rows table about list
-answer_to (of_file_and_rows f rows table about) list file =
-    unless_refused (λ cells. about_table_rows table (about cells) list) (file_cells f rows file)
-answer_to (of_areas_and_rows overlapping areas table about) list file =
-    unless_refused (λ entries. about_table_rows table (about entries) list) (areas_of_file overlapping areas file)
+answer_to (of_list r) list file = answer_of_list r list
+answer_to (after_table then_list) list file = about_table (λ link. answer_of_list (then_list link) list) file
+answer_to (after_file f rows then_list) list file =
+    unless_refused (λ cells. answer_of_list (then_list cells) list) (file_cells f rows file)
+answer_to (after_areas overlapping table then_list) list file =
+    unless_refused (λ entries. answer_of_list (then_list entries) list) (areas_of_file overlapping table file)
 
 -- the answer to a command. Examples alone cite it.
 abbrev pub answer : Command → List ℕ → List ℕ → Answer

@@ -6,7 +6,7 @@ use Rattle.h3_index.specs.Text.{parsed_index}
 use Rattle.h3_index.specs.declared.error.H3Error.TheVariants.{DuplicateInput}
 use Rattle.h3_regions.specs.Areas.{areas_of}
 use Rattle.h3_lines.specs.List.{itself}
-use Rattle.h3_lines.specs.Answer.{written}
+use Rattle.h3_lines.specs.Answer.{Answer, written}
 use Rattle.h3_lines.specs.declared.run_error.AnswerError.TheVariants.{File, FileAtRow, FileColumn}
 use Rattle.h3_lines.specs.declared.run_error.CellFile.TheVariants.{Zones}
 use Rattle.h3_lines.specs.declared.run_error.ColumnError.TheVariants.{NotFound, NotUnique}
@@ -15,8 +15,9 @@ use Rattle.h3_lines.specs.declared.run_error.RowFault.TheVariants.{NotAnIndex}
 use Rattle.h3_rows.specs.Named.{Entry, Table}
 use Rattle.h3_rows.specs.declared.table.FieldContent.TheVariants.{Text}
 use Rattle.h3_rows.specs.RowsAnswer.{After, Choice, Form, Named}
-use Rattle.h3_command.specs.Answer.{answer_to, reads_list_after}
-use Rattle.h3_command.specs.Answer.Request.{of_areas_and_lines}
+use Rattle.h3_command.specs.Answer.{Request, answer_to, reads_list_after}
+use Rattle.h3_command.specs.Answer.ListRequest.{of_lines}
+use Rattle.h3_command.specs.Answer.Request.{after_areas}
 use Rattle.h3_command.specs.Areas.{area_answer, areas_of_file}
 use Rattle.h3_command.specs.Rows.{title_or_zone}
 
@@ -85,8 +86,13 @@ trips =
 
 -- ---- answers
 
+-- the request of the names of areas
+abbrev named : Bool → Table → (List Entry → Option Form) → (List Entry → Option ℕ → Answer) → Request
+named overlapping table form about =
+    after_areas overlapping table (λ entries. of_lines (form entries) (about entries))
+
 -- each row with the name of its area, in a column that is called as the table's own
-names_beside_rows : answer_to (of_areas_and_lines false (in_columns (codes "zone")) rows (area_answer true
+names_beside_rows : answer_to (named false (in_columns (codes "zone")) rows (area_answer true
     [])) trips worked
     ≡ written (codes "id,cell,amount,zone" ++ 10 ∷ codes "1," ++ p ++ codes ",1.50,north" ++ 10 ∷ codes "2," ++ q
     ++ codes ",2," ++ south ++ 10 ∷ codes "3," ++ x ++ codes ",-0.5," ++ 10 ∷ codes "4,,7," ++ 10 ∷ [])
@@ -94,7 +100,7 @@ unfolding parsed_index cell_in address_in number_of areas_of
 names_beside_rows = refl
 
 -- a bare list, and a text for the cells in no area
-names_of_lines : answer_to (of_areas_and_lines false (in_columns (codes "zone")) bare (area_answer true (codes "-")))
+names_of_lines : answer_to (named false (in_columns (codes "zone")) bare (area_answer true (codes "-")))
     (p ++ 10 ∷ x ++ 10 ∷ []) worked
     ≡ written (codes "north" ++ 10 ∷ codes "-" ++ 10 ∷ [])
 unfolding parsed_index cell_in address_in number_of areas_of
@@ -112,7 +118,7 @@ areas_overlap = refl
 
 -- where they may overlap, each row stands once for each of its areas: first with the one whose cell is coarser, though
 -- that comes last in the table
-names_of_overlapping : answer_to (of_areas_and_lines true (in_columns (codes "zone")) rows (area_answer true
+names_of_overlapping : answer_to (named true (in_columns (codes "zone")) rows (area_answer true
     [])) trips overlapping
     ≡ written (codes "id,cell,amount,zone" ++ 10 ∷ codes "1," ++ p ++ codes ",1.50,all" ++ 10 ∷ codes "1," ++ p
     ++ codes ",1.50,north" ++ 10 ∷ codes "2," ++ q ++ codes ",2,all" ++ 10 ∷ codes "2," ++ q ++ codes ",2," ++ south
@@ -122,21 +128,21 @@ names_of_overlapping = refl
 
 -- and a bare list has a line for each
 lines_of_overlapping : answer_to
-    (of_areas_and_lines true (in_columns (codes "zone")) bare (area_answer true (codes "-"))) (p ++ 10 ∷ x ++ 10 ∷
+    (named true (in_columns (codes "zone")) bare (area_answer true (codes "-"))) (p ++ 10 ∷ x ++ 10 ∷
     []) overlapping
     ≡ written (codes "all" ++ 10 ∷ codes "north" ++ 10 ∷ codes "-" ++ 10 ∷ [])
 unfolding parsed_index cell_in address_in number_of areas_of
 lines_of_overlapping = refl
 
 -- the list has no part in the answer then, be it faulty or not
-list_left : map (λ list. answer_to (of_areas_and_lines false (in_columns (codes "zone")) rows (area_answer true
+list_left : map (λ list. answer_to (named false (in_columns (codes "zone")) rows (area_answer true
     [])) list overlapping) (trips ∷ codes "x" ∷ [])
     ≡ record { output = []; ending = Err (File Zones DuplicateInput) }
     ∷ record { output = []; ending = Err (File Zones DuplicateInput) } ∷ []
 unfolding parsed_index cell_in address_in number_of
 list_left = refl
 
-list_read : map (reads_list_after (of_areas_and_lines false (in_columns (codes "zone")) rows (area_answer true [])))
+list_read : map (reads_list_after (named false (in_columns (codes "zone")) rows (area_answer true [])))
     (worked ∷ overlapping ∷ [])
     ≡ true ∷ false ∷ []
 unfolding parsed_index cell_in address_in number_of

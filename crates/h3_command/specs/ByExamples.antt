@@ -26,12 +26,16 @@ abbrev values : List (List ℕ)
 values = codes "north" ∷ codes "west" ∷ []
 
 -- a row of the second value stands between two of the first: one list for each, in the order of the values
-one_list_each : (a b c : Address) → lists_answer 44 (Some (codes "zone")) Ok values (2 ∷ 3 ∷ []) ((a, 0) ∷ (b, 1) ∷ (c, 0) ∷ [])
-    ≡ written ((codes "zone,cell" ++ 10 ∷ []) ++ (value_lines 44 (codes "north") (a ∷ c ∷ []) ++ (value_lines 44 (codes "west") (b ∷ []) ++ [])))
+one_list_each : (a b c : Address)
+    → lists_answer 44 (Some (codes "zone")) Ok values (2 ∷ 3 ∷ []) ((a, 0) ∷ (b, 1) ∷ (c, 0) ∷ [])
+    ≡ written ((codes "zone,cell" ++ 10 ∷ [])
+    ++ (value_lines 44 (codes "north") (a ∷ c ∷ []) ++ (value_lines 44 (codes "west") (b ∷ []) ++ [])))
 one_list_each a b c = refl
 
 -- without a header, after tabs
-no_header : (a : Address) → lists_answer 9 None Ok (codes "north" ∷ []) (1 ∷ []) ((a, 0) ∷ []) ≡ written (value_lines 9 (codes "north") (a ∷ []) ++ [])
+no_header : (a : Address)
+    → lists_answer 9 None Ok (codes "north" ∷ []) (1 ∷ []) ((a, 0) ∷ [])
+    ≡ written (value_lines 9 (codes "north") (a ∷ []) ++ [])
 no_header a = refl
 
 -- a function that refuses two cells
@@ -39,7 +43,8 @@ abbrev refuses_two : List Address → Result (List Address) H3Error
 refuses_two cells = if length cells == 2 then Err DuplicateInput else Ok cells
 
 -- the second value's list is refused: its error, at its first row, and nothing is written of the first
-second_refused : (a b c : Address) → lists_answer 44 (Some (codes "zone")) refuses_two values (2 ∷ 3 ∷ []) ((a, 0) ∷ (b, 1) ∷ (c, 1) ∷ [])
+second_refused : (a b c : Address)
+    → lists_answer 44 (Some (codes "zone")) refuses_two values (2 ∷ 3 ∷ []) ((a, 0) ∷ (b, 1) ∷ (c, 1) ∷ [])
     ≡ record { output = []; ending = Err (AtRow 3 (Call DuplicateInput)) }
 second_refused a b c = refl
 
@@ -120,17 +125,20 @@ table = codes "zone,cell" ++ 10 ∷ codes "8009fffffffffff,81297ffffffffff" ++ 1
 
 -- one of the children, twice another base cell, and the base cell 20, below two values, one of which has quotes once
 abbrev list : List ℕ
-list = codes "zone,cell" ++ 10 ∷ codes "north,8128bffffffffff" ++ 10 ∷ codes "none," ++ 10 ∷ codes "west,8029fffffffffff"
+list =
+    codes "zone,cell" ++ 10 ∷ codes "north,8128bffffffffff" ++ 10 ∷ codes "none," ++ 10 ∷ codes "west,8029fffffffffff"
     ++ 10 ∷ 34 ∷ codes "north" ++ 34 ∷ codes ",8009fffffffffff" ++ 10 ∷ []
 
 shared_lists : answer_to (request_of (by_zone None) command.IntersectCells) list region
-    ≡ written (codes "zone,cell" ++ 10 ∷ codes "north,8128bffffffffff" ++ 10 ∷ codes "west,8128bffffffffff" ++ 10 ∷ codes "west,81297ffffffffff" ++ 10 ∷ [])
+    ≡ written (codes "zone,cell" ++ 10 ∷ codes "north,8128bffffffffff" ++ 10 ∷ codes "west,8128bffffffffff" ++ 10
+    ∷ codes "west,81297ffffffffff" ++ 10 ∷ [])
 unfolding intersection compacted cells_up_to cells_of descendants paths address_in cell_in number_of parsed_index
     text_of
 shared_lists = refl
 
 left_lists : (answer_to (request_of (by_zone None) command.SubtractCells) list region)
-    ≡ written (codes "zone,cell" ++ 10 ∷ codes "north,8009fffffffffff" ++ 10 ∷ codes "west,81283ffffffffff" ++ 10 ∷ codes "west,81287ffffffffff" ++ 10 ∷
+    ≡ written (codes "zone,cell" ++ 10 ∷ codes "north,8009fffffffffff" ++ 10 ∷ codes "west,81283ffffffffff" ++ 10
+    ∷ codes "west,81287ffffffffff" ++ 10 ∷
     codes "west,8128fffffffffff" ++ 10 ∷ codes "west,81293ffffffffff" ++ 10 ∷ codes "west,8129bffffffffff" ++ 10 ∷ [])
 unfolding difference compacted cells_up_to cells_of descendants paths address_in cell_in number_of parsed_index text_of
 left_lists = refl

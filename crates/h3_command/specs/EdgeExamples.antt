@@ -23,28 +23,30 @@ use Rattle.h3_command.specs.Answer.{answer, request}
 use Rattle.h3_command.specs.Answer.Request.{plain}
 use Rattle.h3_command.specs.TableLists.{destination_answer}
 use Rattle.h3_functions.specs.Edges.{are_neighbor_cells, cells_to_directed_edge}
-use Rattle.h3_requests.specs.declared.command.Command.TheVariants.{AreNeighborCells, CellsToDirectedEdge, GetDirectedEdgeDestination, GetDirectedEdgeDestinations, GetDirectedEdgeOrigin, IsValidDirectedEdge, OriginToDirectedEdges}
+use Rattle.h3_requests.specs.declared.command.Command.TheVariants.{AreNeighborCells, CellsToDirectedEdge, ForOne, GetDirectedEdgeDestination, GetDirectedEdgeDestinations}
+use Rattle.h3_requests.specs.declared.command.IndexFunction.TheVariants.{GetDirectedEdgeOrigin, IsValidDirectedEdge, OriginToDirectedEdges}
 
 -- an edge; direction 1 at a pentagon; a cell
-which_are_edges : map (λ (index : ℕ). answer (IsValidDirectedEdge (Some index)) [] [])
+which_are_edges : map (λ (index : ℕ). answer (ForOne IsValidDirectedEdge (Some index)) [] [])
     (0x115283473fffffff ∷ 0x11009fffffffffff ∷ 0x85283473fffffff ∷ [])
     ≡ map written ((codes "true" ++ 10 ∷ []) ∷ (codes "false" ++ 10 ∷ []) ∷ (codes "false" ++ 10 ∷ []) ∷ [])
 unfolding edge_in directed_edge_in edge_number address_in number_of
 which_are_edges = refl
 
-origin : answer (GetDirectedEdgeOrigin (Some 0x115283473fffffff)) [] [] ≡ written (codes "85283473fffffff" ++ 10 ∷ [])
+origin : answer (ForOne GetDirectedEdgeOrigin (Some 0x115283473fffffff)) [] []
+    ≡ written (codes "85283473fffffff" ++ 10 ∷ [])
 unfolding edge_in directed_edge_in edge_number address_in number_of text_of
 origin = refl
 
 -- a pentagon has no edge in direction 1
-edges_of_a_pentagon : answer (OriginToDirectedEdges (Some 0x8009fffffffffff)) [] []
+edges_of_a_pentagon : answer (ForOne OriginToDirectedEdges (Some 0x8009fffffffffff)) [] []
     ≡ written (codes "12009fffffffffff" ++ 10 ∷ codes "13009fffffffffff" ++ 10 ∷ codes "14009fffffffffff" ++ 10
     ∷ codes "15009fffffffffff" ++ 10 ∷ codes "16009fffffffffff" ++ 10 ∷ [])
 unfolding edges_from edge_number cell_in address_in number_of text_of
 edges_of_a_pentagon = refl
 
 -- a hexagon has six, in a pentagon base cell too
-edges_of_a_hexagon : answer (OriginToDirectedEdges (Some 0x8108bffffffffff)) [] []
+edges_of_a_hexagon : answer (ForOne OriginToDirectedEdges (Some 0x8108bffffffffff)) [] []
     ≡ written (codes "11108bffffffffff" ++ 10 ∷ codes "12108bffffffffff" ++ 10 ∷ codes "13108bffffffffff" ++ 10
     ∷ codes "14108bffffffffff" ++ 10 ∷ codes "15108bffffffffff" ++ 10 ∷ codes "16108bffffffffff" ++ 10 ∷ [])
 unfolding edges_from edge_number cell_in address_in number_of text_of

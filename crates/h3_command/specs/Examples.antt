@@ -22,19 +22,20 @@ use Rattle.h3_command.specs.Answer.{answer, request}
 use Rattle.h3_command.specs.Answer.Request.{plain}
 use Rattle.h3_functions.specs.Walks.{grid_disk_unsafe}
 use Rattle.h3_requests.specs.declared.command.IndexFunction.TheVariants as each
-use Rattle.h3_requests.specs.declared.command.Command.TheVariants.{CellToParent, ForEach, GridDiskUnsafe, IsValidCell, UniteCells}
+use Rattle.h3_requests.specs.declared.command.Command.TheVariants.{ForEach, ForOne, GridDiskUnsafe, UniteCells}
 
 -- ---- answers
 
-truth : answer (IsValidCell (Some 0x85283473fffffff)) [] [] ≡ written (codes "true" ++ 10 ∷ [])
+truth : answer (ForOne each.IsValidCell (Some 0x85283473fffffff)) [] [] ≡ written (codes "true" ++ 10 ∷ [])
 unfolding cell_in address_in number_of
 truth = refl
 
-parent : answer (CellToParent (Some 0x85283473fffffff) (pos 4)) [] [] ≡ written (codes "8428347ffffffff" ++ 10 ∷ [])
+parent : answer (ForOne (each.CellToParent (pos 4)) (Some 0x85283473fffffff)) [] []
+    ≡ written (codes "8428347ffffffff" ++ 10 ∷ [])
 unfolding cell_in address_in number_of number_below text_of
 parent = refl
 
-no_index : answer (CellToParent None (pos 4)) [] [] ≡ refused Failed
+no_index : answer (ForOne (each.CellToParent (pos 4)) None) [] [] ≡ refused Failed
 no_index = refl
 
 -- a list of two cells with a blank line between them, and one with a text that is no index behind a blank line

@@ -1,5 +1,5 @@
 -- The definitions of tables of cells, those of a region or of zones, at worked values, by computation.
-use Rattle.std.specs.Prelude.{map, ◌≡◌, ℕ, Bool, true, false, List, [], ◌∷◌, ◌++◌, codes, None, Some, Result, Ok, Err, refl}
+use Rattle.std.specs.Prelude.{map, ◌≡◌, ℕ, Bool, true, false, List, [], ◌∷◌, ◌++◌, codes, Option, None, Some, Result, Ok, Err, refl}
 use Rattle.h3_index.specs.Cell.{Address, number_of}
 use Rattle.h3_index.specs.CellNumber.{address_in, cell_in}
 use Rattle.h3_index.specs.Text.{parsed_index, text_of}
@@ -13,8 +13,9 @@ use Rattle.h3_lines.specs.declared.run_error.ColumnError.TheVariants.{NotFound, 
 use Rattle.h3_lines.specs.declared.run_error.RowError.TheVariants.{Bad, Call}
 use Rattle.h3_lines.specs.declared.run_error.RowFault.TheVariants.{FieldCount, NoSuchField, NotAnIndex, OpenQuote}
 use Rattle.h3_rows.specs.RowsAnswer.{After, Choice, Form, Named}
-use Rattle.h3_command.specs.Answer.{answer_to, reads_list_after}
-use Rattle.h3_command.specs.Answer.Request.{of_file_and_lines}
+use Rattle.h3_command.specs.Answer.{Request, answer_to, reads_list_after}
+use Rattle.h3_command.specs.Answer.ListRequest.{of_lines}
+use Rattle.h3_command.specs.Answer.Request.{after_file}
 use Rattle.h3_command.specs.Files.{file_cells, zone_answer}
 
 -- commas between fields, and quotes count
@@ -69,8 +70,12 @@ worked_cells = refl
 no_rows : file_cells Zones (Some in_field) [] ≡ Ok []
 no_rows = refl
 
+-- the request of the zones of a bare list's cells
+abbrev zoned : Option Form → Request
+zoned rows = after_file Zones rows (λ zones. of_lines None (zone_answer zones))
+
 -- a child, then a cell that has no zone
-zones_of_table : answer_to (of_file_and_lines Zones (Some in_column) None zone_answer)
+zones_of_table : answer_to (zoned (Some in_column))
     (codes "862834737ffffff" ++ 10 ∷ codes "8528340ffffffff" ++ 10 ∷ []) worked
     ≡ written (p ++ 10 ∷ codes "0" ++ 10 ∷ [])
 unfolding parsed_index cell_in address_in number_of text_of
@@ -126,14 +131,14 @@ unfolding parsed_index cell_in address_in number_of
 zones_overlap = refl
 
 -- the list has no part in the answer then, be it faulty or not
-list_left : map (λ list. answer_to (of_file_and_lines Zones (Some in_column) None zone_answer) list repeated)
+list_left : map (λ list. answer_to (zoned (Some in_column)) list repeated)
     ([] ∷ codes "x" ∷ [])
     ≡ record { output = []; ending = Err (File Zones DuplicateInput) }
     ∷ record { output = []; ending = Err (File Zones DuplicateInput) } ∷ []
 unfolding parsed_index cell_in address_in number_of
 list_left = refl
 
-list_read : map (reads_list_after (of_file_and_lines Zones (Some in_column) None zone_answer)) (worked ∷ repeated ∷ [])
+list_read : map (reads_list_after (zoned (Some in_column))) (worked ∷ repeated ∷ [])
     ≡ true ∷ false ∷ []
 unfolding parsed_index cell_in address_in number_of
 list_read = refl

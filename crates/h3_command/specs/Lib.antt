@@ -15,7 +15,6 @@ pub mod Counts
 pub mod EdgeExamples
 pub mod Examples
 pub mod FileExamples
-pub mod FileQuery
 pub mod Files
 pub mod Join
 pub mod Listed
@@ -29,7 +28,6 @@ pub mod ParentExamples
 pub mod ParentRuns
 pub mod ParentSums
 pub mod Parents
-pub mod Plan
 pub mod Required
 pub mod Rows
 pub mod Run
@@ -41,10 +39,8 @@ pub mod SumExamples
 pub mod SumRows
 pub mod SumTables
 pub mod SumTally
-pub mod TableLines
 pub mod TableLists
 pub mod TableQuery
-pub mod WordsQuery
 pub mod ZoneSumExamples
 pub mod ZoneSums
 pub mod ZoneTally

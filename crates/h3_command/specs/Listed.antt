@@ -23,4 +23,5 @@ RefusesCells (Some form) input e = RefusesRows form input.left input.left_after 
 -- the same, where the error of a faulty line is reported with its number
 abbrev pub RefusesNumbered : Says → Option Form → SourceUse → RunError → Type 0
 RefusesNumbered says None input e = ListRefused says RefusesByLine (2 ^ 40) 65536 input e
-RefusesNumbered says (Some form) input e = RefusesRows form input.left input.left_after input.had_failed input.has_failed e
+RefusesNumbered says (Some form) input e =
+    RefusesRows form input.left input.left_after input.had_failed input.has_failed e

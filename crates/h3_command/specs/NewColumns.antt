@@ -19,8 +19,9 @@ use Rattle.h3_lines.specs.Pieces.{Uncut, cut, inside_after, is_uncut}
 use Rattle.h3_rows.specs.Named.{Entry, names_table}
 use Rattle.h3_rows.specs.Row.{quotes_are_sound}
 use Rattle.h3_rows.specs.RowsAnswer.{row_with, rows_with}
-use Rattle.h3_command.specs.Answer.{Request, request_of}
-use Rattle.h3_command.specs.Answer.Request.{of_areas_and_lines, of_areas_and_list, of_areas_and_rows, of_file_and_lines, of_file_and_list, of_file_and_rows, of_lines, of_list, of_numbered_list, of_rows, of_table, of_table_and_lines, plain}
+use Rattle.h3_command.specs.Answer.{ListRequest, Request, request_of}
+use Rattle.h3_command.specs.Answer.ListRequest.{of_lines, of_numbered, of_rows, of_whole}
+use Rattle.h3_command.specs.Answer.Request.{after_areas, after_file, after_table, of_list, of_table, plain}
 use Rattle.h3_command.specs.Areas.{areas_of_file}
 use Rattle.h3_command.specs.LongAnswers.{between_parts}
 use Rattle.h3_command.specs.Rows.{title_or_zone}
@@ -55,23 +56,23 @@ AreLinesOf Is text = (lines : List (List ℕ)) × All Is lines × (text ≡ flat
 
 -- ---- answers
 
--- AnswersBy Is r: each answer to an index, line by line or row by row, is so
+-- AnswersEach Is r: if a list is answered line by line, or row by row, each answer to an index is so
+abbrev pub AnswersEach : (Answer → Type 0) → ListRequest → Type 0
+AnswersEach Is (of_whole form about) = ⊤
+AnswersEach Is (of_numbered says form about) = ⊤
+AnswersEach Is (of_lines form about) = (index : Option ℕ) → Is (about index)
+AnswersEach Is (of_rows table about) = ⊤
+
+-- AnswersBy Is r: the same of a request
 abbrev pub AnswersBy : (Answer → Type 0) → Request → Type 0
 AnswersBy Is (plain a) = ⊤
-AnswersBy Is (of_list form about) = ⊤
-AnswersBy Is (of_numbered_list says form about) = ⊤
-AnswersBy Is (of_lines form about) = (index : Option ℕ) → Is (about index)
 AnswersBy Is (of_table about) = ⊤
-AnswersBy Is (of_file_and_list f rows form about) = ⊤
-AnswersBy Is (of_file_and_lines f rows form about) = (cells : List Address) (index : Option ℕ) → Is (about cells index)
-AnswersBy Is (of_table_and_lines form about) = (link : Links) (index : Option ℕ) → Is (about link index)
-AnswersBy Is (of_areas_and_list overlapping table form about) = ⊤
-AnswersBy Is (of_rows table about) = ⊤
-AnswersBy Is (of_file_and_rows f rows table about) = ⊤
-AnswersBy Is (of_areas_and_rows overlapping areas table about) = ⊤
-AnswersBy Is (of_areas_and_lines overlapping table form about) =
-    (bytes : List ℕ) (entries : List Entry) (index : Option ℕ) → areas_of_file overlapping table bytes ≡ Ok entries
-    → Is (about entries index)
+AnswersBy Is (of_list r) = AnswersEach Is r
+AnswersBy Is (after_table then_list) = (link : Links) → AnswersEach Is (then_list link)
+AnswersBy Is (after_file f rows then_list) = (cells : List Address) → AnswersEach Is (then_list cells)
+AnswersBy Is (after_areas overlapping table then_list) =
+    (bytes : List ℕ) (entries : List Entry) → areas_of_file overlapping table bytes ≡ Ok entries
+    → AnswersEach Is (then_list entries)
 
 -- IsZoneLine areas: what each line of the answer of `cellsToZones` is: a word, or, if the zones have names, one field
 -- of their table's form

@@ -27,8 +27,9 @@ use Rattle.h3_rows.specs.Named.{Table as NamedTable}
 use Rattle.h3_rows.specs.RowsAnswer.{Form, begun_answer, rows_answer}
 use Rattle.h3_command.specs.Areas.{areas_of_file, entries_of_table}
 use Rattle.h3_command.specs.Files.{cells_of_table, file_cells}
-use Rattle.h3_command.specs.Answer.{Request, about_list, about_numbered_list, about_table, answer_to, reads_list_after, reads_table, takes_memory}
-use Rattle.h3_command.specs.Answer.Request.{plain, of_areas_and_lines, of_areas_and_list, of_areas_and_rows, of_file_and_lines, of_file_and_list, of_file_and_rows, of_lines, of_list, of_numbered_list, of_rows, of_table, of_table_and_lines}
+use Rattle.h3_command.specs.Answer.{ListRequest, Request, about_list, about_numbered_list, about_table, answer_to, reads_list_after, reads_table, takes_memory}
+use Rattle.h3_command.specs.Answer.ListRequest.{of_lines, of_numbered, of_rows, of_whole}
+use Rattle.h3_command.specs.Answer.Request.{after_areas, after_file, after_table, of_list, of_table, plain}
 
 -- ---- streams
 
@@ -60,8 +61,8 @@ WritesReading a bytes was_read source (Err (Fault Read)) out = ReadFails source 
 WritesReading a bytes was_read source ending out = was_read × NoReadFails source × Writes a ending out
 
 -- IsReadSoFar says cells source ending: how far a list is read: one that has cells to its end, but where there is no
--- memory; one with a first error at most a page further than bytes in which no line is known to be faulty; where a read fails,
--- no further than these
+-- memory; one with a first error at most a page further than bytes in which no line is known to be faulty; where a read
+-- fails, no further than these
 abbrev pub IsReadSoFar : Says → Result (List Address) H3Error → SourceUse → Result (Unit {0}) RunError → Type 0
 IsReadSoFar says cells source (Err (Fault Read)) = StopsWithin says 0 source
 IsReadSoFar says (Err e) source ending = StopsWithin says 65536 source
@@ -305,31 +306,24 @@ EndsEntries table about input ending out =
     ((entries : List Entry) × GivesEntries table input entries × WritesUnlessMemory (about entries) ending out)
     ⊎ (RefusesEntries table input ending × IsLeft out)
 
+-- EndsOfList r input ending out: how the answering ends of what is asked of a list
+abbrev pub EndsOfList : ListRequest → SourceUse → Result (Unit {0}) RunError → SinkUse → Type 0
+EndsOfList (of_whole form about) input ending out = EndsList form about input ending out
+EndsOfList (of_numbered says form about) input ending out = EndsNumberedList says form about input ending out
+EndsOfList (of_lines form about) input ending out = EndsLines form about input ending out
+EndsOfList (of_rows table about) input ending out = EndsEntries table about input ending out
+
 -- Ends r input table ending out: how a run may end, by its request
 abbrev pub Ends : Request → SourceUse → SourceUse → Result (Unit {0}) RunError → SinkUse → Type 0
 Ends (plain a) input table ending out = Writes a ending out
-Ends (of_list form about) input table ending out = EndsList form about input ending out
-Ends (of_numbered_list says form about) input table ending out = EndsNumberedList says form about input ending out
-Ends (of_lines form about) input table ending out = EndsLines form about input ending out
 Ends (of_table about) input table ending out = WritesOfTable about table ending out
-Ends (of_file_and_list f rows form about) input file ending out =
-    EndsOverFile f rows (λ cells. EndsNumberedList itself form (about cells) input ending out) input file ending out
-Ends (of_file_and_lines f rows form about) input file ending out =
-    EndsOverFile f rows (λ cells. EndsLines form (about cells) input ending out) input file ending out
-Ends (of_table_and_lines form about) input table ending out =
-    EndsOverTable (λ link. EndsLines form (about link) input ending out) input table ending out
-Ends (of_areas_and_lines overlapping table form about) input file ending out =
-    EndsOverAreas overlapping table
-    (λ entries. EndsLines (form entries) (about entries) input ending out) input file ending out
-Ends (of_areas_and_list overlapping table form about) input file ending out =
-    EndsOverAreas overlapping table
-    (λ entries. EndsNumberedList itself form (about entries) input ending out) input file ending out
-Ends (of_rows table about) input file ending out = EndsEntries table about input ending out
-Ends (of_file_and_rows f rows table about) input file ending out =
-    EndsOverFile f rows (λ cells. EndsEntries table (about cells) input ending out) input file ending out
-Ends (of_areas_and_rows overlapping areas table about) input file ending out =
-    EndsOverAreas overlapping areas
-    (λ entries. EndsEntries table (about entries) input ending out) input file ending out
+Ends (of_list r) input table ending out = EndsOfList r input ending out
+Ends (after_table then_list) input table ending out =
+    EndsOverTable (λ link. EndsOfList (then_list link) input ending out) input table ending out
+Ends (after_file f rows then_list) input file ending out =
+    EndsOverFile f rows (λ cells. EndsOfList (then_list cells) input ending out) input file ending out
+Ends (after_areas overlapping table then_list) input file ending out =
+    EndsOverAreas overlapping table (λ entries. EndsOfList (then_list entries) input ending out) input file ending out
 
 -- ---- where nothing fails
 

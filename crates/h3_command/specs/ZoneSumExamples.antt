@@ -19,8 +19,9 @@ use Rattle.h3_requests.specs.declared.rows.Tables.{Tables}
 use Rattle.h3_rows.specs.Named.{Entry, Table}
 use Rattle.h3_rows.specs.RowsAnswer.{After, Named}
 use Rattle.h3_rows.specs.declared.table.FieldContent.TheVariants.{Number}
-use Rattle.h3_command.specs.Answer.{answer_to, request_of}
-use Rattle.h3_command.specs.Answer.Request.{of_file_and_rows}
+use Rattle.h3_command.specs.Answer.{Request, answer_to, request_of}
+use Rattle.h3_command.specs.Answer.ListRequest.{of_rows}
+use Rattle.h3_command.specs.Answer.Request.{after_file}
 use Rattle.h3_command.specs.AreaExamples.{commas}
 use Rattle.h3_command.specs.SumAnswers.{amounts_among, sum_titles}
 use Rattle.h3_command.specs.SumTables.{sums_table}
@@ -48,6 +49,10 @@ summed header zones rows =
 abbrev zones : List ℕ
 zones = codes "8003fffffffffff" ++ 10 ∷ codes "8100bffffffffff" ++ 10 ∷ codes "8005fffffffffff" ++ 10 ∷ []
 
+-- the request of sums in zones
+abbrev added_up : Table → (List Address → List Entry → Answer) → Request
+added_up table about = after_file Zones None (λ zones. of_rows table (about zones))
+
 -- a row below the second zone, one in the first, one whose cell is above a zone and so in none, one without a cell, and
 -- one in the second zone without a number
 abbrev trips : List ℕ
@@ -56,7 +61,7 @@ trips =
     ∷ codes "3,8001fffffffffff,-0.5" ++ 10 ∷ codes "4,,." ++ 10 ∷ codes "5,8100bffffffffff, " ++ 10 ∷ []
 
 -- each zone, in ascending order, also the one without rows, and none at last; the row without a cell is in no sum
-sums_of_rows : answer_to (of_file_and_rows Zones None amounts (summed true)) trips zones
+sums_of_rows : answer_to (added_up amounts (summed true)) trips zones
     ≡ written (codes "zone,count,amount" ++ 10 ∷ codes "8003fffffffffff,1,2" ++ 10
     ∷ codes "8005fffffffffff,0,0" ++ 10 ∷ codes "8100bffffffffff,2,1.5" ++ 10 ∷ codes "0,1,-0.5" ++ 10 ∷ [])
 unfolding digits parsed_index cell_in address_in number_of text_of by_number cells_up_to cells_of descendants paths
@@ -110,21 +115,21 @@ unfolding digits parsed_index cell_in address_in number_of text_of by_number cel
 sums_of_tables = refl
 
 -- without a header, and without zones
-sums_of_none : answer_to (of_file_and_rows Zones None headless (summed false))
+sums_of_none : answer_to (added_up headless (summed false))
     (codes "8001fffffffffff,0.1" ++ 10 ∷ []) []
     ≡ written (codes "0,1,0.1" ++ 10 ∷ [])
 unfolding digits parsed_index cell_in address_in number_of text_of by_number cells_up_to cells_of descendants paths
 sums_of_none = refl
 
 -- a row with a cell and no number: nothing is printed
-no_number : answer_to (of_file_and_rows Zones None amounts (summed true))
+no_number : answer_to (added_up amounts (summed true))
     (trips ++ codes "6,8001fffffffffff,." ++ 10 ∷ []) zones
     ≡ record { output = []; ending = Err (AtRow 7 NotANumber) }
 unfolding parsed_index cell_in address_in number_of
 no_number = refl
 
 -- zones that overlap are an error, be the list faulty or not
-no_sums : answer_to (of_file_and_rows Zones None amounts (summed true)) (codes "x")
+no_sums : answer_to (added_up amounts (summed true)) (codes "x")
     (zones ++ codes "8001fffffffffff" ++ 10 ∷ [])
     ≡ record { output = []; ending = Err (File Zones DuplicateInput) }
 unfolding parsed_index cell_in address_in number_of

@@ -394,7 +394,7 @@ fn count_areas<R: Source, W: Sink>(
 
 /// Reads a table of zones with names, and then writes how many of the listed cells, or of those of the
 /// rows, lie in each area, and how many in none.
-// Inlined, its blocks would take their place on the stack while `run_file_then_list` runs another command.
+// Inlined, its blocks would take their place on the stack while the caller runs another command.
 #[inline(never)]
 pub(crate) fn count_over_areas<R: Source, T: Source, W: Sink>(
     alloc: Global,

@@ -183,7 +183,7 @@ fn answer_areas<R: Source, W: Sink>(
 
 /// Reads a table of zones with names, and then writes the names of the areas of each listed cell, or each
 /// row once with each.
-// Inlined, its blocks would take their place on the stack while `run_file_then_list` runs another command.
+// Inlined, its blocks would take their place on the stack while the caller runs another command.
 #[inline(never)]
 pub(crate) fn answer_over_areas<R: Source, T: Source, W: Sink>(
     alloc: Global,

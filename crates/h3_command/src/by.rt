@@ -8,14 +8,14 @@ ghost use Rattle.h3_lines.specs.Write.{Writes, sink_use};
 ghost use Rattle.h3_lines.specs.declared.run_error.Fault.TheVariants.{Memory};
 ghost use Rattle.h3_lines.specs.declared.run_error.RunError.TheVariants as refusal;
 ghost use Rattle.h3_command.specs.Answer.{by_request};
-ghost use Rattle.h3_command.specs.Answer.Request.{of_list, of_numbered_list};
+ghost use Rattle.h3_command.specs.Answer.ListRequest.{of_numbered, of_whole};
 ghost use Rattle.h3_command.specs.By.{by_answer, lists_answer, title_if, title_row, value_lines};
 ghost use Rattle.h3_command.specs.ByValue.{AreApart, part_of};
 ghost use Rattle.h3_rows.specs.Areas.{names_in};
 ghost use Rattle.h3_command.specs.Rows.{list_form};
-ghost use Rattle.h3_command.specs.Run.{Ends, EndsEntries, WritesUnlessMemory};
+ghost use Rattle.h3_command.specs.Run.{EndsEntries, EndsOfList, WritesUnlessMemory};
 ghost use Rattle.h3_lines.specs.List.{itself};
-ghost use Rattle.h3_lines.specs.Reads.{SourceUse, source_use};
+ghost use Rattle.h3_lines.specs.Reads.{source_use};
 ghost use Rattle.h3_requests.specs.Rows.{is_counted};
 ghost use Rattle.h3_rows.specs.Named.{table_of};
 ghost use Rattle.h3_rows.specs.declared.table.FieldContent.TheVariants.{Text};
@@ -247,17 +247,14 @@ pub(crate) fn answer_lists<F: ListFunction + ListOfValue + Drop, R: Source, W: S
     input: &mut R,
     out: &mut W,
 ) -> Result<(), RunError>
-    ensures { (table : SourceUse) → Ends (by_request tables.now.by tables.now.list (F.list_of function)
-        (of_list (list_form tables.now.list) (F.answer_of function)))
-        (source_use R.left R.has_failed input.old input.new) table result
+    ensures { EndsOfList (by_request tables.now.by tables.now.list (F.list_of function)
+        (of_whole (list_form tables.now.list) (F.answer_of function)))
+        (source_use R.left R.has_failed input.old input.new) result
         (sink_use W.taken W.has_failed out.old out.new) }
 {
-    match &tables.by {
-        None => answer_whole(alloc, function, &tables.list, input, out),
-        Some(field) => match &tables.list {
-            None => answer_whole(alloc, function, &tables.list, input, out),
-            Some(rows) => answer_by(alloc, &function, rows, field, input, out),
-        },
+    match (&tables.by, &tables.list) {
+        (Some(field), Some(rows)) => answer_by(alloc, &function, rows, field, input, out),
+        _ => answer_whole(alloc, function, &tables.list, input, out),
     }
 }
 
@@ -269,16 +266,13 @@ pub(crate) fn answer_numbered_lists<F: ListFunction + ListOfValue + Drop, R: Sou
     input: &mut R,
     out: &mut W,
 ) -> Result<(), RunError>
-    ensures { (table : SourceUse) → Ends (by_request tables.now.by tables.now.list (F.list_of function)
-        (of_numbered_list itself (list_form tables.now.list) (F.answer_of function)))
-        (source_use R.left R.has_failed input.old input.new) table result
+    ensures { EndsOfList (by_request tables.now.by tables.now.list (F.list_of function)
+        (of_numbered itself (list_form tables.now.list) (F.answer_of function)))
+        (source_use R.left R.has_failed input.old input.new) result
         (sink_use W.taken W.has_failed out.old out.new) }
 {
-    match &tables.by {
-        None => answer_whole_numbered(alloc, function, &tables.list, input, out),
-        Some(field) => match &tables.list {
-            None => answer_whole_numbered(alloc, function, &tables.list, input, out),
-            Some(rows) => answer_by(alloc, &function, rows, field, input, out),
-        },
+    match (&tables.by, &tables.list) {
+        (Some(field), Some(rows)) => answer_by(alloc, &function, rows, field, input, out),
+        _ => answer_whole_numbered(alloc, function, &tables.list, input, out),
     }
 }

@@ -16,18 +16,19 @@ ghost use Rattle.h3_lines.specs.declared.run_error.RunError.TheVariants as refus
 ghost use Rattle.h3_rows.specs.Areas.{names_in};
 ghost use Rattle.h3_rows.specs.Named.{table_of};
 ghost use Rattle.h3_rows.specs.declared.table.FieldContent.TheVariants.{Text};
-ghost use Rattle.h3_command.specs.Answer.{by_region_request};
+ghost use Rattle.h3_command.specs.Answer.{combined_request};
+ghost use Rattle.h3_command.specs.Answer.Request.{after_file};
 ghost use Rattle.h3_command.specs.By.{by_answer, lists_answer};
 ghost use Rattle.h3_command.specs.ByValue.{AreApart};
 ghost use Rattle.h3_command.specs.Combination.{AreCut, IsCutBehind, IsRegionOf, combined};
-ghost use Rattle.h3_command.specs.Rows.{file_form, list_form};
-ghost use Rattle.h3_command.specs.Run.{Ends, EndsEntries, EndsOverFile, WritesUnlessMemory};
+ghost use Rattle.h3_command.specs.Rows.{file_form};
+ghost use Rattle.h3_command.specs.Run.{Ends, EndsEntries, EndsOfList, WritesUnlessMemory};
 ghost use Rattle.h3_command.specs.declared.files.Combination.TheVariants as combination;
 
 use crate::by::{empty_parts, title_if, write_lists};
 use crate::by_value::divide_cells;
-use crate::file_query::{FileQuery, answer_over_file};
-use crate::files::{Combination, left_of_region, read_file, slots_for};
+use crate::files::{Combination, Combine, left_of_region, read_file, slots_for};
+use crate::listed::answer_whole_numbered;
 use crate::sets::UniteList;
 use h3_index::Cell;
 use h3_lines::{CellFile, Fault, RunError};
@@ -214,37 +215,40 @@ fn answer_cut<R: Source, W: Sink>(
     )
 }
 
-/// Reads the file of a region, and then a list of rows, and writes for each value of a field what is
-/// made of the cells of the rows that have the value, and the region.
-// Inlined, its blocks would take their place on the stack while `run_file_then_list` runs another command.
-#[inline(never)]
-fn answer_by_region<R: Source, T: Source, W: Sink>(
+/// Writes what is made of the cells of a region's file and those of a list, or, if a field divides its rows,
+/// those of each value.
+fn answer_with_region<R: Source, W: Sink>(
     alloc: Global,
     kind: Combination,
-    rows: &RowOptions,
-    field: &CellField,
-    file_rows: &Option<RowOptions>,
+    tables: &Tables,
+    cells: &mut [Cell],
     input: &mut R,
-    file: &mut T,
     out: &mut W,
 ) -> Result<(), RunError>
-    requires { is_counted field.now ≡ true }
-    ensures { EndsOverFile kind_of_file.Region (list_form file_rows.now)
-        (λ region. EndsEntries (table_of rows.now field.now Text)
-        (by_answer rows.now (λ cells. Ok (combined kind region cells)))
+    ensures { EndsOfList (combined_request tables.now (combined kind) cells.old)
         (source_use R.left R.has_failed input.old input.new) result
-        (sink_use W.taken W.has_failed out.old out.new))
-        (source_use R.left R.has_failed input.old input.new)
-        (source_use T.left T.has_failed file.old file.new) result
         (sink_use W.taken W.has_failed out.old out.new) }
 {
-    let mut cells = read_file(alloc, CellFile::Region, file_rows, file)?;
-    let region = Region::of(&mut cells);
-    answer_cut(alloc, kind, &region, rows, field, input, out)
+    match (&tables.by, &tables.list) {
+        (Some(field), Some(rows)) => {
+            let region = Region::of(cells);
+            answer_cut(alloc, kind, &region, rows, field, input, out)
+        }
+        _ => {
+            let function = Combine {
+                alloc,
+                kind,
+                others: cells,
+            };
+            answer_whole_numbered(alloc, function, &tables.list, input, out)
+        }
+    }
 }
 
 /// Reads the file of a region, and then writes what is made of the region and the cells of a list, or, if
 /// a field divides its rows, those of each value.
+// Inlined, its blocks would take their place on the stack while the caller runs another command.
+#[inline(never)]
 pub(crate) fn answer_combined<R: Source, T: Source, W: Sink>(
     alloc: Global,
     kind: Combination,
@@ -253,26 +257,11 @@ pub(crate) fn answer_combined<R: Source, T: Source, W: Sink>(
     file: &mut T,
     out: &mut W,
 ) -> Result<(), RunError>
-    ensures { Ends (by_region_request tables.now.by tables.now.list (file_form tables.now) (combined kind))
+    ensures { Ends (after_file kind_of_file.Region (file_form tables.now) (combined_request tables.now (combined kind)))
         (source_use R.left R.has_failed input.old input.new)
         (source_use T.left T.has_failed file.old file.new) result
         (sink_use W.taken W.has_failed out.old out.new) }
 {
-    let query = FileQuery::Combined(kind);
-    match &tables.by {
-        None => answer_over_file(alloc, query, tables, input, file, out),
-        Some(field) => match &tables.list {
-            None => answer_over_file(alloc, query, tables, input, file, out),
-            Some(rows) => answer_by_region(
-                alloc,
-                kind,
-                rows,
-                field,
-                &tables.file,
-                input,
-                file,
-                out,
-            ),
-        },
-    }
+    let mut cells = read_file(alloc, CellFile::Region, &tables.file, file)?;
+    answer_with_region(alloc, kind, tables, &mut cells, input, out)
 }

@@ -8,19 +8,22 @@ ghost use Rattle.h3_regions.specs.Zones.{IsZones};
 ghost use Rattle.h3_lines.specs.List.{itself};
 ghost use Rattle.h3_lines.specs.Reads.{source_use};
 ghost use Rattle.h3_lines.specs.Write.{Writes, sink_use};
+ghost use Rattle.h3_lines.specs.declared.run_error.CellFile.TheVariants as kind_of_file;
+ghost use Rattle.h3_command.specs.Answer.ListRequest.{of_numbered};
+ghost use Rattle.h3_command.specs.Answer.Request.{after_file};
 ghost use Rattle.h3_command.specs.Files.{counts_answer};
-ghost use Rattle.h3_command.specs.Rows.{list_form};
-ghost use Rattle.h3_command.specs.Run.{EndsNumberedList};
+ghost use Rattle.h3_command.specs.Rows.{file_form, list_form};
+ghost use Rattle.h3_command.specs.Run.{Ends, EndsNumberedList};
 ghost use Rattle.h3_command.specs.Counts.{CountsMore, counts_none, counts_then};
 
 use crate::count_lines::CountLines;
-use crate::files::{look_ahead, table_of};
+use crate::files::{look_ahead, read_file, table_of};
 use crate::listed::take_listed;
 use h3_index::Cell;
-use h3_lines::{CellJob, Fault, LINES, RunError, write_lines};
+use h3_lines::{CellFile, CellJob, Fault, LINES, RunError, write_lines};
 use h3_regions::laws::zones_are_lawful;
 use h3_regions::{TabledZones, Zones, count_next};
-use h3_requests::RowOptions;
+use h3_requests::{RowOptions, Tables};
 use h3_streams::{Sink, Source};
 use std::alloc::Global;
 
@@ -120,4 +123,26 @@ pub(crate) fn answer_counts<R: Source, W: Sink>(
     };
     let tally = take_listed(alloc, tally, rows, input)?;
     write_counts(&in_order, &tally.counts, tally.others, out)
+}
+
+/// Reads a file of zones, and then writes how many of the cells of a list, or of those of its rows, lie in each
+/// of them, and how many in none.
+// Inlined, its blocks would take their place on the stack while the caller runs another command.
+#[inline(never)]
+pub(crate) fn counts_over_file<R: Source, T: Source, W: Sink>(
+    alloc: Global,
+    tables: &Tables,
+    input: &mut R,
+    file: &mut T,
+    out: &mut W,
+) -> Result<(), RunError>
+    ensures { Ends (after_file kind_of_file.Zones (file_form tables.now)
+        (λ zones. of_numbered itself (list_form tables.now.list) (counts_answer zones)))
+        (source_use R.left R.has_failed input.old input.new)
+        (source_use T.left T.has_failed file.old file.new) result
+        (sink_use W.taken W.has_failed out.old out.new) }
+{
+    zones_are_lawful();
+    let zones = read_file(alloc, CellFile::Zones, &tables.file, file)?;
+    answer_counts(alloc, &tables.list, &zones, input, out)
 }

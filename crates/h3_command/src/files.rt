@@ -18,12 +18,15 @@ ghost use Rattle.h3_regions.specs.Zones.{IsZones};
 ghost use Rattle.h3_lines.specs.Answer.{cell_lines, written};
 ghost use Rattle.h3_lines.specs.Reads.{source_use};
 ghost use Rattle.h3_lines.specs.Write.{Writes, sink_use};
+ghost use Rattle.h3_lines.specs.declared.run_error.CellFile.TheVariants as kind_of_file;
 ghost use Rattle.h3_lines.specs.declared.run_error.Fault.TheVariants.{Memory};
 ghost use Rattle.h3_lines.specs.declared.run_error.RunError.TheVariants as refusal;
+ghost use Rattle.h3_command.specs.Answer.ListRequest.{of_lines};
+ghost use Rattle.h3_command.specs.Answer.Request.{after_file};
 ghost use Rattle.h3_command.specs.Combination.{AreArranged, combined, combined_answer, region_answer, in_file};
 ghost use Rattle.h3_command.specs.Files.{cell_to_zone, covered_answer, error_of_file, file_error, is_covered_cell, zone_answer};
-ghost use Rattle.h3_command.specs.Rows.{list_form, rows_form};
-ghost use Rattle.h3_command.specs.Run.{EndsLines, GivesFile, RefusesFile};
+ghost use Rattle.h3_command.specs.Rows.{file_form, list_form, rows_form};
+ghost use Rattle.h3_command.specs.Run.{Ends, EndsLines, GivesFile, RefusesFile};
 
 use crate::listed::{ListFunction, read_numbered};
 use crate::required::cell_given;
@@ -36,7 +39,7 @@ use h3_regions::laws::{coverages_decide_combinations, zones_are_lawful};
 use h3_regions::{
     Region, TabledZones, Zones, intersect, order_by_number, order_zones, subtract, write_table,
 };
-use h3_requests::RowOptions;
+use h3_requests::{RowOptions, Tables};
 use h3_streams::{Sink, Source};
 use std::alloc::Global;
 
@@ -430,4 +433,46 @@ pub(crate) fn answer_zones<R: Source, W: Sink>(
     let table = table_of(alloc, &zones)?;
     let tabled = TabledZones::over(&zones, &table);
     answer_listed(alloc, rows, "zone", &ZoneOf { zones, tabled }, input, out)
+}
+
+/// Reads the file of a region, and then writes for each cell of a list, or with each row, whether the region
+/// covers it.
+// Inlined, its blocks would take their place on the stack while the caller runs another command.
+#[inline(never)]
+pub(crate) fn covered_over_file<R: Source, T: Source, W: Sink>(
+    alloc: Global,
+    tables: &Tables,
+    input: &mut R,
+    file: &mut T,
+    out: &mut W,
+) -> Result<(), RunError>
+    ensures { Ends (after_file kind_of_file.Region (file_form tables.now)
+        (λ region. of_lines (rows_form tables.now.list (codes "isCovered")) (covered_answer region)))
+        (source_use R.left R.has_failed input.old input.new)
+        (source_use T.left T.has_failed file.old file.new) result
+        (sink_use W.taken W.has_failed out.old out.new) }
+{
+    let mut cells = read_file(alloc, CellFile::Region, &tables.file, file)?;
+    answer_covered(alloc, &tables.list, &mut cells, input, out)
+}
+
+/// Reads a file of zones, and then writes the zone of each cell of a list, or with each row.
+// Inlined, as the one above.
+#[inline(never)]
+pub(crate) fn zones_over_file<R: Source, T: Source, W: Sink>(
+    alloc: Global,
+    tables: &Tables,
+    input: &mut R,
+    file: &mut T,
+    out: &mut W,
+) -> Result<(), RunError>
+    ensures { Ends (after_file kind_of_file.Zones (file_form tables.now)
+        (λ zones. of_lines (rows_form tables.now.list (codes "zone")) (zone_answer zones)))
+        (source_use R.left R.has_failed input.old input.new)
+        (source_use T.left T.has_failed file.old file.new) result
+        (sink_use W.taken W.has_failed out.old out.new) }
+{
+    zones_are_lawful();
+    let zones = read_file(alloc, CellFile::Zones, &tables.file, file)?;
+    answer_zones(alloc, &tables.list, &zones, input, out)
 }

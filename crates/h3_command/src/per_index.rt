@@ -14,31 +14,6 @@ use h3_lines::{ANSWER, AnswerLine, BLOCK, Line, RunError, put_result, write_answ
 use h3_requests::IndexFunction;
 use h3_streams::Sink;
 
-// The table of the functions of one index: `index_functions!(m! ARGS)` expands to `m! { ARGS ROWS }`. A row has
-// its name in `Command` and `IndexFunction`, the index and what else the words give it, and H3's name.
-macro_rules! index_functions {
-    ($made:ident! $($before:tt)*) => {
-        $made! {
-            $($before)*
-            IsValidCell { cell } "isValidCell";
-            GetResolution { cell } "getResolution";
-            GetBaseCellNumber { cell } "getBaseCellNumber";
-            IsPentagon { cell } "isPentagon";
-            IsResClassIII { cell } "isResClassIII";
-            CellToParent { cell, res } "cellToParent";
-            CellToCenterChild { cell, res } "cellToCenterChild";
-            CellToLastChild { cell, res } "cellToLastChild";
-            CellToChildrenSize { cell, res } "cellToChildrenSize";
-            CellToChildPos { cell, res } "cellToChildPos";
-            IsValidDirectedEdge { edge } "isValidDirectedEdge";
-            GetDirectedEdgeOrigin { edge } "getDirectedEdgeOrigin";
-            OriginToDirectedEdges { cell } "originToDirectedEdges";
-        }
-    };
-}
-
-pub(crate) use index_functions;
-
 /// The same number in more bits.
 #[inline(always)]
 fn widened(number: Result<u8, H3Error>) -> Result<u64, H3Error>

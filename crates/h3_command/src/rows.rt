@@ -10,7 +10,8 @@ ghost use Rattle.h3_command.specs.LongAnswers.{between_parts};
 ghost use Rattle.h3_command.specs.Rows.{pair_form, rows_form, text_form};
 ghost use Rattle.h3_command.specs.Run.{EndsLines};
 
-use crate::per_index::{AnswerOf, index_functions};
+use crate::per_index::AnswerOf;
+use h3_functions::function_name;
 use h3_lines::{
     AnswerLine, LinesFunction, RunError, TextFunction, TextsFunction, answer_each,
     answer_each_lines, answer_each_text, answer_each_texts,
@@ -19,22 +20,6 @@ use h3_requests::{IndexFunction, RowOptions};
 use h3_rows::{answer_rows, answer_rows_lines, answer_rows_text, answer_rows_texts};
 use h3_streams::{Sink, Source};
 use std::alloc::Global;
-
-// The name of the function of one index that is this one.
-macro_rules! name_of_function {
-    ($value:ident; $($function:ident { $index:ident $(, $field:ident)* } $name:literal;)*) => {
-        match $value {
-            $(IndexFunction::$function { $($field: _),* } => $name),*
-        }
-    };
-}
-
-/// The name of H3's function, which the new column of rows has in a header.
-fn function_name(function: IndexFunction) -> &'static str
-    ensures { result.now ≡ function_name function }
-{
-    index_functions!(name_of_function! function;)
-}
 
 /// Writes what a function answers to each line of a list, or each row with what it answers to its
 /// cell, if the list has rows. The new column has this name, unless another is given.

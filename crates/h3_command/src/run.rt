@@ -1,7 +1,7 @@
 //! Running a command.
 
 ghost use Rattle.std.specs.Prelude.{◌≡◌, false, true};
-ghost use Rattle.h3_lines.specs.Reads.{SourceUse, source_use};
+ghost use Rattle.h3_lines.specs.Reads.{source_use};
 ghost use Rattle.h3_lines.specs.Write.{sink_use};
 ghost use Rattle.h3_rows.specs.Areas.{NamesStandOnce};
 ghost use Rattle.h3_rows.specs.Laws.{FieldsAreKept, HeaderStands, MarksAreKept, OutputReadsBack, RowsAreWhole, RowsGiveBack, RowsStand, RowsStandUntil};
@@ -15,18 +15,20 @@ ghost use Rattle.h3_command.specs.Join.{CellsGetTheirNames, NamesAreOfRows, Name
 ghost use Rattle.h3_command.specs.NewColumns.{AnswersAreWords, ErrorNamesAreFields, ErrorNamesAreKept, NamesAreKept, RowsStandOnce, TitlesAreFields, WordPairsAreKept, WordPairsAreUncut, WordsAreFields, WordsAreKept};
 ghost use Rattle.h3_command.specs.ParentSums.{ParentSumsPrintedAddUp};
 ghost use Rattle.h3_command.specs.Parents.{ParentsPrintedOnce};
-ghost use Rattle.h3_command.specs.Run.{Ends, Runs};
+ghost use Rattle.h3_command.specs.Run.{Ends, EndsOfList, Runs};
 ghost use Rattle.h3_command.specs.ZoneSums.{ZoneSumsPrintedAddUp};
 
 use crate::area_counts::count_over_areas;
 use crate::area_sums::sum_over_areas;
 use crate::areas::answer_over_areas;
+use crate::bases::{write_pentagons, write_res0_cells};
 use crate::by::{answer_lists, answer_numbered_lists};
 use crate::by_region::answer_combined;
-use crate::children::cells_to_children;
-use crate::file_query::FileQuery::*;
-use crate::file_query::answer_over_file;
+use crate::children::{cell_to_children, cells_to_children, child_pos_to_cell};
+use crate::counts::counts_over_file;
+use crate::edges::*;
 use crate::files::Combination::*;
+use crate::files::{covered_over_file, zones_over_file};
 use crate::laws::{
     answers_are_fields, area_counts_add_up, area_sums_add_up, cells_get_their_names,
     parents_add_up, zone_sums_add_up,
@@ -34,16 +36,15 @@ use crate::laws::{
 use crate::parent_sums::sum_by_parents;
 use crate::parents::count_by_parents;
 use crate::per_index::write_answer_for;
-use crate::plan::{Plan, plan_of};
 use crate::rows::answer_function;
 use crate::sets::*;
 use crate::sizes::uncompact_cells_size;
-use crate::table_lists::TableLines::*;
-use crate::table_lists::answer_over_table;
+use crate::table_lists::*;
 use crate::table_query::over_table;
-use crate::words_query::write_words_answer;
+use crate::walks::*;
 use crate::zone_sums::sum_over_zones;
-use h3_lines::{RunError, report};
+use h3_functions::get_num_cells;
+use h3_lines::{RunError, report, write_result};
 use h3_regions::laws::counts_add_up;
 use h3_requests::Command::*;
 use h3_requests::{AreaOptions, CellField, Command, RowOptions, Tables};
@@ -95,7 +96,7 @@ fn count_by_zones<R: Source, T: Source, W: Sink>(
         (Some(list), Some(field)) => {
             sum_over_zones(alloc, &tables.file, list, field, input, table, out)
         }
-        _ => answer_over_file(alloc, Counts, tables, input, table, out),
+        _ => counts_over_file(alloc, tables, input, table, out),
     }
 }
 
@@ -108,20 +109,22 @@ fn count_in_parents<R: Source, W: Sink>(
     input: &mut R,
     out: &mut W,
 ) -> Result<(), RunError>
-    ensures { (table : SourceUse) → Ends
-        (parents_request res tables.now.list (summed tables.now.list tables.now.sum))
-        (source_use R.left R.has_failed input.old input.new) table result
+    ensures { EndsOfList (parents_request res tables.now.list (summed tables.now.list tables.now.sum))
+        (source_use R.left R.has_failed input.old input.new) result
         (sink_use W.taken W.has_failed out.old out.new) }
 {
-    match (&tables.list, &tables.sum) {
-        (Some(list), Some(field)) => sum_by_parents(alloc, res, list, field, input, out),
-        _ => count_by_parents(alloc, res, &tables.list, input, out),
+    match &tables.list {
+        None => count_by_parents(alloc, res, &tables.list, input, out),
+        Some(list) => match &tables.sum {
+            None => count_by_parents(alloc, res, &tables.list, input, out),
+            Some(field) => sum_by_parents(alloc, res, list, field, input, out),
+        },
     }
 }
 
 /// Does what a command asks that reads a file or a table and then a list, up to the line on standard
 /// error.
-fn run_file_then_list<R: Source, T: Source, W: Sink>(
+fn perform_over_file_and_list<R: Source, T: Source, W: Sink>(
     alloc: Global,
     command: &Command,
     tables: &Tables,
@@ -139,22 +142,22 @@ fn run_file_then_list<R: Source, T: Source, W: Sink>(
     match *command {
         IntersectCells => answer_combined(alloc, Shared, tables, input, table, out),
         SubtractCells => answer_combined(alloc, Left, tables, input, table, out),
-        AreCoveredCells => answer_over_file(alloc, Covered, tables, input, table, out),
+        AreCoveredCells => covered_over_file(alloc, tables, input, table, out),
         CellsToZones => match &tables.areas {
-            None => answer_over_file(alloc, Zones, tables, input, table, out),
+            None => zones_over_file(alloc, tables, input, table, out),
             Some(areas) => answer_over_areas(alloc, areas, rows, input, table, out),
         },
         CountCellsInZones => match &tables.areas {
             None => count_by_zones(alloc, tables, input, table, out),
             Some(areas) => count_by_areas(alloc, areas, rows, &tables.sum, input, table, out),
         },
-        GridDisksUnsafe { k } => answer_over_table(alloc, Disk { k }, rows, input, table, out),
+        GridDisksUnsafe { k } => grid_disks_unsafe(alloc, k, rows, input, table, out),
         GridDisksDistancesUnsafe { k } => {
-            answer_over_table(alloc, DiskDistances { k }, rows, input, table, out)
+            grid_disks_distances_unsafe(alloc, k, rows, input, table, out)
         }
-        GridRingsUnsafe { k } => answer_over_table(alloc, Ring { k }, rows, input, table, out),
+        GridRingsUnsafe { k } => grid_rings_unsafe(alloc, k, rows, input, table, out),
         GetDirectedEdgeDestinations => {
-            answer_over_table(alloc, Destination, rows, input, table, out)
+            get_directed_edge_destinations(alloc, rows, input, table, out)
         }
         _ => unreachable!(),
     }
@@ -184,7 +187,7 @@ fn perform_over_list<R: Source, T: Source, W: Sink>(
         UncompactCellsSize { res } => uncompact_cells_size(alloc, res, rows, input, out),
         UniteCells => answer_numbered_lists(alloc, UniteList, tables, input, out),
         CountCellsInParents { res } => count_in_parents(alloc, res, tables, input, out),
-        _ => run_file_then_list(alloc, command, tables, input, table, out),
+        _ => perform_over_file_and_list(alloc, command, tables, input, table, out),
     }
 }
 
@@ -203,11 +206,44 @@ fn perform<R: Source, T: Source, W: Sink>(
     ensures input_kept { reads_list (request_of tables.now command.now) ≡ false → input.new ≡ input.old }
     ensures table_kept { reads_table (request_of tables.now command.now) ≡ false → table.new ≡ table.old }
 {
-    match plan_of(command) {
-        Plan::Index(function, index) => write_answer_for(function, index, out),
-        Plan::Words(query) => write_words_answer(query, out),
-        Plan::Table(query) => over_table(alloc, query, table, out),
-        Plan::List => perform_over_list(alloc, command, tables, input, table, out),
+    match *command {
+        ForOne(function, index) => write_answer_for(function, index, out),
+        GetNumCells { res } => write_result(out, get_num_cells(res)),
+        GetRes0Cells => write_res0_cells(out),
+        GetPentagons { res } => write_pentagons(res, out),
+        CellToChildren { cell, res } => cell_to_children(cell, res, out),
+        ChildPosToCell {
+            position,
+            cell,
+            res,
+        } => write_result(out, child_pos_to_cell(position, cell, res)),
+        GridDiskUnsafe { cell, k } => over_table(alloc, grid_disk_unsafe(cell, k), table, out),
+        GridDiskDistancesUnsafe { cell, k } => over_table(
+            alloc,
+            grid_disk_distances_unsafe(cell, k),
+            table,
+            out,
+        ),
+        GridRingUnsafe { cell, k } => over_table(alloc, grid_ring_unsafe(cell, k), table, out),
+        AreNeighborCells { cell, to } => over_table(
+            alloc,
+            are_neighbor_cells(cell, to),
+            table,
+            out,
+        ),
+        CellsToDirectedEdge { cell, to } => over_table(
+            alloc,
+            cells_to_directed_edge(cell, to),
+            table,
+            out,
+        ),
+        GetDirectedEdgeDestination { edge } => over_table(
+            alloc,
+            get_directed_edge_destination(edge),
+            table,
+            out,
+        ),
+        _ => perform_over_list(alloc, command, tables, input, table, out),
     }
 }
 
@@ -215,10 +251,10 @@ fn perform<R: Source, T: Source, W: Sink>(
 /// read and written. A command that answers line by line then writes each row of the list
 /// with the answer to its own cell beside it. One that answers about its list as a whole takes the cells
 /// of the rows as the list; or, if `tables.by` says which field divides the rows, it writes such an
-/// answer for each of the field's values. Of the rows of a file the cells are taken; or, by `cellsToZones`, the cells
-/// with their names, if `tables.areas` says how these are read. It then answers a cell with the name of its
-/// area, and two areas that overlap are an error before the list is read; or, if they may overlap, with the names
-/// of its areas, the one with the coarsest cell above it first.
+/// answer for each of the field's values. Of the rows of a file the cells are taken; or, by `cellsToZones` and
+/// `countCellsInZones`, the cells with their names, if `tables.areas` says how these are read. Then two areas that
+/// overlap are an error before the list is read, unless they may. `cellsToZones` answers a cell with the name of its
+/// area; or, if they may overlap, with the names of its areas, the one with the coarsest cell above it first.
 pub fn run_over<R: Source, T: Source, W: Sink, E: Sink>(
     alloc: Global,
     command: &Command,

@@ -4,14 +4,17 @@
 //! `AnswerError::Table`, `Fault::Read` and `Fault::Memory` are as of `BaseTable::read`. Then come the
 //! errors of standard input.
 
-ghost use Rattle.std.specs.Prelude.{◌≡◌, ℕ, List, Err, IfOk, IfErr};
+ghost use Rattle.std.specs.Prelude.{◌≡◌, ℕ, List, Err, IfOk, IfErr, codes};
 ghost use Rattle.h3_streams.specs.Stream.{HasLeft};
 ghost use Rattle.h3_table.specs.BaseTable.{link_of};
 ghost use Rattle.h3_lines.specs.Reads.{source_use};
 ghost use Rattle.h3_lines.specs.Write.{sink_use};
 ghost use Rattle.h3_command.specs.TableLists.{destination_answer, destination_of};
-ghost use Rattle.h3_command.specs.Run.{EndsLines, EndsOverTable, GivesTable, RefusesTableFile};
-ghost use Rattle.h3_command.specs.TableLines.{lines_answer, lines_form};
+ghost use Rattle.h3_command.specs.Answer.ListRequest.{of_lines};
+ghost use Rattle.h3_command.specs.Answer.Request.{after_table};
+ghost use Rattle.h3_command.specs.LongAnswers.{between_parts, disk_distances_for, disk_for, ring_for};
+ghost use Rattle.h3_command.specs.Rows.{pair_form, rows_form};
+ghost use Rattle.h3_command.specs.Run.{Ends, GivesTable, RefusesTableFile};
 
 use crate::long::{DiskDistancesOf, DiskOf, RingOf};
 use crate::required::edge_given;
@@ -66,77 +69,93 @@ impl<'t> AnswerLine for DestinationOf<'t> {
     }
 }
 
-/// What is answered to each line of a list, or beside each row, over the links of a table.
-#[derive(Clone, Copy)]
-pub(crate) enum TableLines {
-    /// The cell that an edge leads to.
-    Destination,
-
-    /// The cells of the disk around a cell.
-    Disk { k: i32 },
-
-    /// The same, each with its ring.
-    DiskDistances { k: i32 },
-
-    /// The cells of the ring around a cell.
-    Ring { k: i32 },
-}
-
-/// Writes what is answered over the links of a table to each line of a list, or beside each row.
-fn answer_lines<R: Source, W: Sink>(
-    alloc: Global,
-    lines: TableLines,
-    rows: &Option<RowOptions>,
-    table: &BaseTable,
-    input: &mut R,
-    out: &mut W,
-) -> Result<(), RunError>
-    ensures { EndsLines (lines_form lines rows.now) (lines_answer lines rows.now (link_of table.now))
-        (source_use R.left R.has_failed input.old input.new) result
-        (sink_use W.taken W.has_failed out.old out.new) }
-{
-    match lines {
-        TableLines::Destination => {
-            let function = DestinationOf { table };
-            let name = "getDirectedEdgeDestination";
-            answer_listed(alloc, rows, name, &function, input, out)
-        }
-        TableLines::Disk { k } => {
-            let function = DiskOf { table, k };
-            answer_listed_lines(alloc, rows, "gridDiskUnsafe", &function, input, out)
-        }
-        TableLines::DiskDistances { k } => {
-            let between = between_parts(rows);
-            let function = DiskDistancesOf { table, k, between };
-            answer_listed_pairs(alloc, rows, &function, input, out)
-        }
-        TableLines::Ring { k } => {
-            let function = RingOf { table, k };
-            answer_listed_lines(alloc, rows, "gridRingUnsafe", &function, input, out)
-        }
-    }
-}
-
-/// Reads a table, and then writes what is answered over its links to each line of a list, or beside
-/// each row.
-// Inlined, its blocks would take their place on the stack while `run_file_then_list` runs another command.
+/// Reads a table, and then writes the cell that each edge of a list leads to.
+// Inlined, its blocks would take their place on the stack while the caller runs another command.
 #[inline(never)]
-pub(crate) fn answer_over_table<R: Source, T: Source, W: Sink>(
+pub(crate) fn get_directed_edge_destinations<R: Source, T: Source, W: Sink>(
     alloc: Global,
-    lines: TableLines,
     rows: &Option<RowOptions>,
     input: &mut R,
     table: &mut T,
     out: &mut W,
 ) -> Result<(), RunError>
-    ensures { EndsOverTable
-        (λ link. EndsLines (lines_form lines rows.now) (lines_answer lines rows.now link)
-        (source_use R.left R.has_failed input.old input.new) result
-        (sink_use W.taken W.has_failed out.old out.new))
+    ensures { Ends (after_table
+        (λ link. of_lines (rows_form rows.now (codes "getDirectedEdgeDestination")) (destination_answer link)))
+        (source_use R.left R.has_failed input.old input.new)
+        (source_use T.left T.has_failed table.old table.new) result
+        (sink_use W.taken W.has_failed out.old out.new) }
+{
+    let links = read_table(alloc, table)?;
+    let function = DestinationOf { table: &links };
+    let name = "getDirectedEdgeDestination";
+    answer_listed(alloc, rows, name, &function, input, out)
+}
+
+/// Reads a table, and then writes the cells of the disk around each cell of a list.
+// Inlined, its blocks would take their place on the stack while the caller runs another command.
+#[inline(never)]
+pub(crate) fn grid_disks_unsafe<R: Source, T: Source, W: Sink>(
+    alloc: Global,
+    k: i32,
+    rows: &Option<RowOptions>,
+    input: &mut R,
+    table: &mut T,
+    out: &mut W,
+) -> Result<(), RunError>
+    ensures { Ends (after_table (λ link. of_lines (rows_form rows.now (codes "gridDiskUnsafe")) (disk_for link k)))
         (source_use R.left R.has_failed input.old input.new)
         (source_use T.left T.has_failed table.old table.new) result
         (sink_use W.taken W.has_failed out.old out.new) }
 {
     let table = read_table(alloc, table)?;
-    answer_lines(alloc, lines, rows, &table, input, out)
+    let function = DiskOf { table: &table, k };
+    answer_listed_lines(alloc, rows, "gridDiskUnsafe", &function, input, out)
+}
+
+/// The same, each cell with its ring.
+// Inlined, its blocks would take their place on the stack while the caller runs another command.
+#[inline(never)]
+pub(crate) fn grid_disks_distances_unsafe<R: Source, T: Source, W: Sink>(
+    alloc: Global,
+    k: i32,
+    rows: &Option<RowOptions>,
+    input: &mut R,
+    table: &mut T,
+    out: &mut W,
+) -> Result<(), RunError>
+    ensures { Ends (after_table
+        (λ link. of_lines (pair_form rows.now) (disk_distances_for (between_parts rows.now) link k)))
+        (source_use R.left R.has_failed input.old input.new)
+        (source_use T.left T.has_failed table.old table.new) result
+        (sink_use W.taken W.has_failed out.old out.new) }
+{
+    let table = read_table(alloc, table)?;
+    let between = between_parts(rows);
+    let function = DiskDistancesOf {
+        table: &table,
+        k,
+        between,
+    };
+    answer_listed_pairs(alloc, rows, &function, input, out)
+}
+
+/// Reads a table, and then writes the cells of the ring around each cell of a list.
+// Inlined, its blocks would take their place on the stack while the caller runs another command.
+#[inline(never)]
+pub(crate) fn grid_rings_unsafe<R: Source, T: Source, W: Sink>(
+    alloc: Global,
+    k: i32,
+    rows: &Option<RowOptions>,
+    input: &mut R,
+    table: &mut T,
+    out: &mut W,
+) -> Result<(), RunError>
+    ensures { Ends (after_table (λ link. of_lines (rows_form rows.now (codes "gridRingUnsafe")) (ring_for link k)))
+        (source_use R.left R.has_failed input.old input.new)
+        (source_use T.left T.has_failed table.old table.new) result
+        (sink_use W.taken W.has_failed out.old out.new) }
+{
+    let table = read_table(alloc, table)?;
+    let function = RingOf { table: &table, k };
+    answer_listed_lines(alloc, rows, "gridRingUnsafe", &function, input, out)
 }

@@ -176,7 +176,7 @@ fn sum_zones<R: Source, W: Sink>(
 
 /// Reads a file of zones without names, and then writes how many of the rows of a list have their cells in
 /// each zone, in ascending order, and in none, and what the numbers in these rows add up to.
-// Inlined, its blocks would take their place on the stack while `run_file_then_list` runs another command.
+// Inlined, its blocks would take their place on the stack while the caller runs another command.
 #[inline(never)]
 pub(crate) fn sum_over_zones<R: Source, T: Source, W: Sink>(
     alloc: Global,

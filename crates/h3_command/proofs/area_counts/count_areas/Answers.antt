@@ -18,7 +18,8 @@ pub count_in_each-requires-clause-small : goal.count_in_each-requires-clause-sma
 count_in_each-requires-clause-small g c =
     let given = rw c.deref_mut.ensures.value at c.in-Err.ensures.same in
     c.of-areas.ensures.numbers (length c.args.table.now.names.spans.items)
-    (All-permutation (λ p. p.1 < length c.args.table.now.names.spans.items) c.args.table.now.cells.items c.in-Err.refused.pairs.now given c.requires)
+    (All-permutation (λ p. p.1 < length c.args.table.now.names.spans.items) c.args.table.now.cells.items
+    c.in-Err.refused.pairs.now given c.requires)
 
 pub returns-in-Ok : goal.returns-in-Ok
 returns-in-Ok g c = λ entries holds.

@@ -29,6 +29,7 @@ returns g c = λ entries holds.
     let ends = rw c.as_bytes-none.ensures.value at c.answer_several.ensures in
     let may : c.args.options.now.overlapping ≡ true = search rules in
     rw may
-    (ends_overlapping c.areas_are_lawful.ensures.in_any_order c.args.options.now c.args.rows.now entries c.args.table.now
+    (ends_overlapping c.areas_are_lawful.ensures.in_any_order c.args.options.now c.args.rows.now entries
+    c.args.table.now
     c.of-areas.result c.name_of_column-column.result.now input c.answer_several.result out
     holds same c.name_of_column-column.ensures ends)

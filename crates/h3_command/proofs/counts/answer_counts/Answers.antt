@@ -51,4 +51,5 @@ returns g c =
     let told : AreCounts zones cells c.in_ok-tally.tally.counts.items others = rw c.over.ensures at taken.1 [] start in
     let wrote = rw (c.over-in_order.ensures, c.deref-2.ensures.value) at c.write_counts.ensures in
     let input = source_use g.R.Source.left g.R.Source.has_failed c.args.input.now c.take_listed.new.input in
-    numbered_ends itself (list_form c.args.rows.now) (counts_answer zones) cells input _ out gives (inl (wrote cells told))
+    numbered_ends itself (list_form c.args.rows.now) (counts_answer zones) cells input _ out gives
+    (inl (wrote cells told))

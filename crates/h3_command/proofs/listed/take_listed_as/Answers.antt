@@ -12,7 +12,9 @@ returns-in-None-clause-refused g c = rw c.in-None.is c.take_cells_as.ensures.ref
 pub returns-in-Some-clause-taken : goal.returns-in-Some-clause-taken
 returns-in-Some-clause-taken g c =
     let input = source_use g.R.Source.left g.R.Source.has_failed c.args.input.now c.take_row_cells_as.new.input in
-    rw c.in-Some.is (rows_given (g.V.CellJob.taken c.args.job) (form_as (g.F.CellOf.says c.args.function) c.in-Some.options) input c.take_row_cells_as.result c.take_row_cells_as.ensures.taken c.take_row_cells_as.ensures.sound)
+    rw c.in-Some.is (rows_given (g.V.CellJob.taken c.args.job)
+    (form_as (g.F.CellOf.says c.args.function) c.in-Some.options) input c.take_row_cells_as.result
+    c.take_row_cells_as.ensures.taken c.take_row_cells_as.ensures.sound)
 
 pub returns-in-Some-clause-refused : goal.returns-in-Some-clause-refused
 returns-in-Some-clause-refused g c = rw c.in-Some.is c.take_row_cells_as.ensures.refused

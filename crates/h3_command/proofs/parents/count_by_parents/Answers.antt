@@ -26,7 +26,9 @@ returns g c =
     let out = sink_use g.W.Sink.taken g.W.Sink.has_failed c.args.out.now c.write_parent_counts.new.out in
     let says = parent_at c.args.res in
     let same : c.in_ok-cells.cells.items ≡ cells = is ∙ ap (λ l. l ++ cells) c.new.ensures.items in
-    let wrote : Writes (parent_counts_answer c.args.rows.now c.in_ok-cells.cells.items) c.write_parent_counts.result out =
+    let wrote : Writes (parent_counts_answer c.args.rows.now c.in_ok-cells.cells.items) c.write_parent_counts.result
+    out =
     rw (← c.between_parts.ensures, ← c.cell_title.ensures, ← c.deref_mut.ensures.value) c.write_parent_counts.ensures in
-    numbered_ends says (list_form_as says c.args.rows.now) (parent_counts_answer c.args.rows.now) cells input _ out gives
+    numbered_ends says (list_form_as says c.args.rows.now) (parent_counts_answer c.args.rows.now) cells input _ out
+    gives
     (inl (subst (λ l. Writes (parent_counts_answer c.args.rows.now l) c.write_parent_counts.result out) same wrote))

@@ -8,7 +8,9 @@ pub loop-end-init : goal.loop-end-init
 loop-end-init g c =
     let cells = map g.T.HasCell.cell_of c.args.items.now in
     let own : (d : Address) → number_of (get_or cells c.args.place d) ≡ c.raw-number.result =
-    λ d. ap number_of (cell_there g.T.HasCell.cell_of c.args.items.now c.args.place c.index-items-place.result d c.requires (sym c.index-items-place.is))
+    λ d.
+    ap number_of (cell_there g.T.HasCell.cell_of c.args.items.now c.args.place c.index-items-place.result d
+    c.requires (sym c.index-items-place.is))
     ∙ sym (c.raw-number.ensures.number ∙ ap number_of c.cell.ensures) in
     record {
       some = omega arith;
@@ -26,7 +28,9 @@ loop-end-preserved g c =
     let inside : c.loop-end.end < length c.args.items.now = c.loop-end-test.true in
     let equal : c.raw.result ≡ c.raw-number.result = c.if-raw-number.true in
     let own : (d : Address) → number_of (get_or cells c.loop-end.end d) ≡ c.raw-number.result =
-    λ d. ap number_of (cell_there g.T.HasCell.cell_of c.args.items.now c.loop-end.end c.index-items-end.result d inside (sym c.index-items-end.is))
+    λ d.
+    ap number_of (cell_there g.T.HasCell.cell_of c.args.items.now c.loop-end.end c.index-items-end.result d inside
+    (sym c.index-items-end.is))
     ∙ sym (c.raw.ensures.number ∙ ap number_of c.cell-in-loop-end.ensures) ∙ equal in
     record {
       some = omega (arith, some);

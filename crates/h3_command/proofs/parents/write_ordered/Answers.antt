@@ -26,7 +26,8 @@ returns-in_err-end-2 g c =
     let rows = flat_map (count_row c.args.separator) (parent_counts c.args.cells.now) in
     let out = sink_use g.W.Sink.taken g.W.Sink.has_failed c.args.out.now c.put_counts.new.out in
     rw (p.1, p.2) (push_written (counts_table c.args.separator title (parent_counts c.args.cells.now)) out
-    (push_then g.W.Sink.taken g.W.Sink.has_failed header _ rows _ _ _ c.in_ok-end.ensures.ok c.in_err-end-2.ensures.err))
+    (push_then g.W.Sink.taken g.W.Sink.has_failed header _ rows _ _ _ c.in_ok-end.ensures.ok
+    c.in_err-end-2.ensures.err))
 
 pub returns : goal.returns
 returns g c =

@@ -60,7 +60,8 @@ returns g c =
     λ x. sym (any.covered items ordered x moved) ∙ any.covered items listed x back in
     let whole : take c.in_ok-zones.zones.len (ordered ++ drop (length ordered) items) ≡ ordered =
     first_of (search rules, grind (arith, common_steps)) in
-    let titles : List Entry → Option (List ℕ × List ℕ) = λ rows. sum_titles (zones_have_header c.args.file_rows.now list) (codes "zone") rows in
+    let titles : List Entry → Option (List ℕ × List ℕ) =
+    λ rows. sum_titles (zones_have_header c.args.file_rows.now list) (codes "zone") rows in
     let ends =
     subst (λ about. EndsEntries (table_of list c.args.field.now Number) about input c.sum_zones.result out)
     (fun_ext (λ rows. ap (λ r. written (sums_table list.separator (titles rows) r))

@@ -47,7 +47,8 @@ returns-in_err-slots g c =
 
 pub returns-in_err-places-in-Ok : goal.returns-in_err-places-in-Ok
 returns-in_err-places-in-Ok g c =
-    let p = err_from_is_err_and c.from_residual-in_err-places-in-Ok.result c.from_residual-in_err-places-in-Ok.ensures.1 in
+    let p =
+    err_from_is_err_and c.from_residual-in_err-places-in-Ok.result c.from_residual-in_err-places-in-Ok.ensures.1 in
     let input = source_use g.R.Source.left g.R.Source.has_failed c.args.input.now c.args.input.now in
     let out = sink_use g.W.Sink.taken g.W.Sink.has_failed c.args.out.now c.args.out.now in
     rw (p.1, p.2, c.in_err-places-in-Ok.ensures)
@@ -79,7 +80,8 @@ returns g c =
     let form = c.zone_form-form.ensures in
     let found =
     rw (form.separator, form.header, form.title, form.none, c.in_ok-texts.ensures.ok) at c.sum_found.ensures in
-    let titles : List Entry → Option (List ℕ × List ℕ) = λ rows. sum_titles (zones_have_header c.args.file.now list) (codes "zone") rows in
+    let titles : List Entry → Option (List ℕ × List ℕ) =
+    λ rows. sum_titles (zones_have_header c.args.file.now list) (codes "zone") rows in
     subst
     (λ about. EndsEntries (table_of list c.args.field.now Number) about input c.sum_found.result out)
     (fun_ext (λ rows. ap (λ r. written (sums_table list.separator (titles rows) r))

@@ -1,8 +1,7 @@
-use Rattle.std.proofs.Common.{◌∙◌, inl, inr, refl, subst}
+use Rattle.std.proofs.Common.{inl, inr, refl}
 use Rattle.std.proofs.KnownBytes.{Keeps-refl}
 use Rattle.std.proofs.lemmas.Result.{err_from_is_err_and}
-use Rattle.h3_command.specs.Combination.{IsRegionOf}
-use Rattle.h3_command.proofs.by_region.answer_by_region.Goals as goal
+use Rattle.h3_command.proofs.files.covered_over_file.Goals as goal
 
 pub returns-in_err-cells : goal.returns-in_err-cells
 returns-in_err-cells g c =
@@ -13,9 +12,5 @@ returns-in_err-cells g c =
 pub returns : goal.returns
 returns g c =
     let (bytes, held, listed, gives, arranged) = c.in_ok-cells.ensures.cells in
-    let region : IsRegionOf listed c.of-region.result =
-    subst (λ l. IsRegionOf l c.of-region.result) (c.deref_mut.ensures.value ∙ arranged) (record {
-      valid = c.of-region.ensures.valid;
-      covers = c.of-region.ensures.covers 15 c.of-region.ensures.fine;
-    }) in
-    (bytes, held, inl (listed, gives, c.answer_cut.ensures listed region))
+    let ends = rw (c.deref_mut.ensures.value, arranged) at c.answer_covered.ensures in
+    (bytes, held, inl (listed, gives, ends))

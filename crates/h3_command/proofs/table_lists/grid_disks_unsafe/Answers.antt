@@ -1,8 +1,9 @@
-use Rattle.std.proofs.Common.{refl, inl, inr}
+use Rattle.std.proofs.Common.{refl, inl, inr, rules, w32}
 use Rattle.std.proofs.KnownBytes.{Keeps-refl}
+use Rattle.std.proofs.lemmas.Int.{to_z-of_z}
 use Rattle.std.proofs.lemmas.Result.{err_from_is_err_and}
 use Rattle.h3_table.specs.BaseTable.{link_of}
-use Rattle.h3_command.proofs.table_lists.answer_over_table.Goals as goal
+use Rattle.h3_command.proofs.table_lists.grid_disks_unsafe.Goals as goal
 
 pub returns-in_err-table : goal.returns-in_err-table
 returns-in_err-table g c =
@@ -13,4 +14,5 @@ returns-in_err-table g c =
 pub returns : goal.returns
 returns g c =
     let (bytes, held, gives) = c.in_ok-table.ensures.table in
-    (bytes, held, inl (link_of c.in_ok-table.table, gives, c.answer_lines.ensures))
+    let ends = rw (to_z-of_z w32 c.args.k (search rules)) at c.answer_listed_lines.ensures in
+    (bytes, held, inl (link_of c.in_ok-table.table, gives, ends))
