@@ -3,10 +3,9 @@
 
 use h3_index::H3Error;
 use h3_lines::{AnswerError, Fault, RunError, report, write_all};
-use h3_program::{NamedFile, Retried, SystemFiles, run_words};
-use h3_requests::{Command, IndexFunction};
+use h3_program::{NamedFile, Retried, SystemFiles, run_parsed};
 use h3_streams::{Sink, Source, StreamFault, Streamed};
-use h3_words::{ArgsError, CommandFile, Words, read_words, reads_list};
+use h3_words::{CommandFile, ListKind, Words, list_of, read_words};
 use std::alloc::Global;
 use std::fs::File;
 use std::io::{ErrorKind, IsTerminal};
@@ -29,50 +28,12 @@ fn given_words<R: Env + AllocGlobal>(rt: &R) -> Result<Vec<String>, RunError> {
         .map_err(|_| RunError::Fault(Fault::Memory))
 }
 
-/// Whether the words may be those of a command that names a file. No others are parsed twice.
-fn may_name_file(words: &Vec<String>) -> bool {
-    for word in words {
-        if word.starts_with("--region")
-            || word.starts_with("--zones")
-            || word.starts_with("--table")
-        {
-            return true;
-        }
-    }
-    false
-}
-
-/// What the words of a command line ask for; `None` where they are not those of a command.
-fn asked_for(alloc: Global, words: &Vec<String>) -> Result<Option<Words>, RunError> {
-    let words = words.clone().map_err(|_| RunError::Fault(Fault::Memory))?;
-    match read_words(alloc, words) {
-        Ok(asked) => Ok(Some(asked)),
-        Err(ArgsError::Memory) => Err(RunError::Fault(Fault::Memory)),
-        Err(_) => Ok(None),
-    }
-}
-
-/// What is said at a terminal before a command reads its bare list; `None` if it reads no list.
-fn awaited_list<'a>(command: &Command) -> Option<&'a str> {
-    match command {
-        Command::ForEach(IndexFunction::IsValidDirectedEdge | IndexFunction::GetDirectedEdgeOrigin)
-        | Command::GetDirectedEdgeDestinations => {
-            Some("h3: reading edges from standard input, one a line\n")
-        }
-        command if reads_list(*command) => {
-            Some("h3: reading cells from standard input, one a line\n")
-        }
-        _ => None,
-    }
-}
-
-/// What is said at a terminal before a command reads its list: rows, if it reads those; `None` if it
-/// reads no list.
-fn notice<'a>(asked: &Words) -> Option<&'a str> {
-    let list = awaited_list(&asked.command)?;
-    match &asked.tables.list {
-        Some(_) => Some("h3: reading rows from standard input\n"),
-        None => Some(list),
+/// What is said at a terminal before a command reads its list.
+fn notice(list: ListKind) -> &'static str {
+    match list {
+        ListKind::Cells => "h3: reading cells from standard input, one a line\n",
+        ListKind::Edges => "h3: reading edges from standard input, one a line\n",
+        ListKind::Rows => "h3: reading rows from standard input\n",
     }
 }
 
@@ -108,16 +69,11 @@ fn is_input<S: Files<File = File>>(rt: &S, path: &str) -> bool {
     }
 }
 
-/// The file that a command reads beside a list; `None` where it does not read both.
-fn file_of_list<'a>(asked: &'a Words) -> Option<&'a CommandFile> {
-    awaited_list(&asked.command)?;
-    asked.file.as_ref()
-}
-
 /// The error line of a command that would read its list and its file from one pipe; `None` where it
 /// would not.
 fn input_twice<'a, S: Files<File = File>>(rt: &S, asked: &Words) -> Option<&'a str> {
-    let file = file_of_list(asked)?;
+    let file = asked.file.as_ref()?;
+    list_of(asked)?;
     if !is_input(rt, file.path()) {
         return None;
     }
@@ -159,33 +115,28 @@ fn start<S: Env + Files<File = File> + AllocGlobal, R: Source + Drop, W: Sink, E
         Ok(words) => words,
         Err(refusal) => return report(err, Err(refusal)),
     };
+    let parsed = read_words(rt.alloc(), words);
     let mut input = Announced {
         input,
         line: None,
         said,
     };
     let mut is_missing = false;
-    if is_terminal || may_name_file(&words) {
-        match asked_for(rt.alloc(), &words) {
-            Ok(Some(asked)) => {
-                if let Some(line) = input_twice(rt, &asked) {
-                    let _ = write_all(err, line.as_bytes());
-                    return 3;
-                }
-                if is_terminal {
-                    input.line = notice(&asked);
-                }
-                is_missing = is_file_missing(rt, &asked);
-            }
-            Ok(None) => {}
-            Err(refusal) => return report(err, Err(refusal)),
+    if let Ok(asked) = &parsed {
+        if let Some(line) = input_twice(rt, asked) {
+            let _ = write_all(err, line.as_bytes());
+            return 3;
         }
+        if is_terminal {
+            input.line = list_of(asked).map(notice);
+        }
+        is_missing = is_file_missing(rt, asked);
     }
     // (a missing file may be standard input itself, closed: the folder would then be opened for it)
     let _kept = if is_missing { None } else { closed_input(rt) };
     let files = SystemFiles(rt);
     let mut file = NamedFile::new(&files);
-    run_words(rt.alloc(), words, &mut input, &mut file, out, err)
+    run_parsed(rt.alloc(), parsed, &mut input, &mut file, out, err)
 }
 
 fn main(rt: HostRuntime) -> ExitCode {

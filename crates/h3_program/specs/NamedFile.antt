@@ -22,7 +22,8 @@ module _ {O F : Type 0} where
 
   -- IsOpenedAt left bytes_at old path new: the file at the path is open, and has the bytes left that are at this path;
   -- nothing else has changed
-  pub record IsOpenedAt (left : F → Option (List ℕ)) (bytes_at : O → List ℕ → Option (List ℕ) → Type 0) (old : NamedFile O F) (path : List ℕ) (new : NamedFile O F) : Type 0 where
+  pub record IsOpenedAt (left : F → Option (List ℕ)) (bytes_at : O → List ℕ → Option (List ℕ) → Type 0)
+      (old : NamedFile O F) (path : List ℕ) (new : NamedFile O F) : Type 0 where
     pub is_open : IsSome (named_file new)
     pub bytes : bytes_at (named_files old) path (named_left left new)
     pub files_kept : named_files new ≡ named_files old

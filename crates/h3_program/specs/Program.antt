@@ -32,7 +32,8 @@ pub record Files (F : Type 0) : Type 1 where
   pub as_source : F → F → SourceUse
 
 -- the request is run; a source that it does not read stays as it is
-pub record RunsOver {R F : Type 0} (r : Request) (status : ℕ) (input : Change R) (file : Change F) (s : Streams) : Type 0 where
+pub record RunsOver {R F : Type 0} (r : Request) (status : ℕ) (input : Change R) (file : Change F) (s : Streams)
+    : Type 0 where
   pub runs : Runs r status s
   pub input_kept : reads_list r ≡ false → IsUntouched input
   pub file_kept : reads_table r ≡ false → IsUntouched file
@@ -62,7 +63,8 @@ abbrev pub RunsCommand : {R F : Type 0} → Files F → Option CommandFile → R
 RunsCommand files None r status input file s = RunsOver r status input file s
 RunsCommand {F = F} files (Some f) r status input file s =
     ((opened : F) × files.opens file.old (path_of f) opened
-    × RunsOver r status input (record { old = opened; new = file.new }) (record s { table = files.as_source opened file.new }))
+    × RunsOver r status input (record { old = opened; new = file.new })
+    (record s { table = files.as_source opened file.new }))
     ⊎ (files.fails_to_open file.old (path_of f) file.new × CannotOpen f status input s)
 
 -- version_line: `h3`, a space, the version and a line feed

@@ -7,6 +7,6 @@ mod retried;
 mod system;
 
 pub use file::{NamedFile, OpenFault, OpenFile, OpenFiles};
-pub use program::run_words;
+pub use program::run_parsed;
 pub use retried::Retried;
 pub use system::SystemFiles;

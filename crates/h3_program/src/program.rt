@@ -1,19 +1,16 @@
-//! The whole program but for what only the system can give: words, the standard streams, and files.
+//! What is done for what words parse as, over streams and a file.
 
-ghost use Rattle.std.specs.Prelude.{◌≡◌, map, string_bytes, Result};
+ghost use Rattle.std.specs.Prelude.{◌≡◌};
 ghost use Rattle.h3_lines.specs.Reads.{source_use};
 ghost use Rattle.h3_lines.specs.Write.{sink_use};
 ghost use Rattle.h3_command.specs.Answer.{request_of};
-ghost use Rattle.h3_words.specs.Parse.{ParsesAs};
-ghost use Rattle.h3_words.specs.declared.words.Words.{Words};
-ghost use Rattle.h3_words.specs.declared.words.ArgsError.{ArgsError};
 ghost use Rattle.h3_program.specs.Program.{Follows, RunsCommand, WritesLine, open_line};
 
 use crate::file::OpenFile;
 use h3_command::run::run_over;
 use h3_lines::{Fault, RunError, report, write_all, write_answer};
 use h3_streams::{Sink, Source};
-use h3_words::{ArgsError, CommandFile, Words, read_words};
+use h3_words::{ArgsError, CommandFile, Words};
 use std::alloc::Global;
 
 /// What `h3 --version` prints.
@@ -75,28 +72,27 @@ fn run_command<R: Source, F: OpenFile, W: Sink, E: Sink>(
     }
 }
 
-/// Runs the command that the words of a command line parse as, and returns the exit status. Help
-/// and the version go to `out`; the text of an invalid command line goes to `err`, with status 2.
+/// Runs what the words of a command line parse as (`read_words` of `h3_words`), and returns the exit
+/// status. Help and the version go to `out`; the text of an invalid command line goes to `err`, with
+/// status 2.
 ///
-/// The file of a command that names one is opened once the words are parsed, and before anything
-/// else is looked at; where it cannot be opened, the line `table: open`, `region: open` or
-/// `zones: open`, by its kind, goes to `err`, with status 3.
-pub fn run_words<R: Source, F: OpenFile, W: Sink, E: Sink>(
+/// The file of a command that names one is opened before anything else is looked at; where it cannot be
+/// opened, the line `table: open`, `region: open` or `zones: open`, by its kind, goes to `err`, with
+/// status 3.
+pub fn run_parsed<R: Source, F: OpenFile, W: Sink, E: Sink>(
     alloc: Global,
-    words: Vec<String>,
+    parsed: Result<Words, ArgsError>,
     input: &mut R,
     file: &mut F,
     out: &mut W,
     err: &mut E,
 ) -> u8
     ensures err_kept { result ≡ 0 → err.new ≡ err.old }
-    ensures follows { (parsed : Result Words ArgsError)
-        × ParsesAs (map string_bytes words.items) parsed
-        × Follows (record {
-          opens = F.opens;
-          fails_to_open = F.fails_to_open;
-          as_source = source_use F.left F.has_failed;
-        }) parsed result
+    ensures follows { Follows (record {
+      opens = F.opens;
+      fails_to_open = F.fails_to_open;
+      as_source = source_use F.left F.has_failed;
+    }) parsed result
         (record { old = input.old; new = input.new })
         (record { old = file.old; new = file.new }) (record {
           input = source_use R.left R.has_failed input.old input.new;
@@ -105,7 +101,7 @@ pub fn run_words<R: Source, F: OpenFile, W: Sink, E: Sink>(
           err = sink_use E.taken E.has_failed err.old err.new;
         }) }
 {
-    match read_words(alloc, words) {
+    match parsed {
         Ok(words) => run_command(alloc, &words, input, file, out, err),
         Err(ArgsError::Help(text)) => report(err, write_answer(out, text.as_bytes())),
         Err(ArgsError::Version) => report(err, write_answer(out, VERSION_LINE.as_bytes())),

@@ -183,7 +183,8 @@ named_turn os o word wt rows p q given_value by_id named_it f =
     go true takes v is e = option_turn os o word wt rows p q v takes by_id is e
     go false flag (Some v) is e = absurd (cons_nil kind.TooManyValues [] e)
     go false flag None is e =
-        let two = or_nil _ _ e in attached q (codes "true") [] (by_flag flag) by_id two.0 two.1 (λ d. flag_is o q d word flag (is d))
+        let two = or_nil _ _ e in
+        attached q (codes "true") [] (by_flag flag) by_id two.0 two.1 (λ d. flag_is o q d word flag (is d))
 
 pub help_faults : (os : List CommandOption) (h : Held) → react_fault (done_rules os) false help_done [] h ≡ [] → ⊥
 help_faults os h e = cons_nil kind.DisplayHelp [] (or_nil (settle_fault (done_rules os) false h) _ e).1

@@ -10,7 +10,7 @@ use Rattle.clap.specs.Faults.{built_fault, check_fault, defaults_fault, entered_
 use Rattle.clap.specs.declared.error.kind.ErrorKind.TheVariants as kind
 use Rattle.h3_words.specs.Commands.{app, app_with, commands, options_of, word_of}
 use Rattle.h3_requests.specs.declared.command.Command.{Command}
-use Rattle.h3_requests.specs.declared.command.Command.TheVariants.{ForEach}
+use Rattle.h3_requests.specs.declared.command.Command.TheVariants.{ForEach, ForOne}
 use Rattle.h3_requests.specs.declared.command.IndexFunction.TheVariants.{IsValidCell}
 use Rattle.h3_words.proofs.Leaf.{at_word, idle_held, leaf_done}
 use Rattle.h3_words.proofs.OptionRules.{bytes_same, done_rules, or_false}
@@ -111,14 +111,17 @@ rows_named ks k rest first =
 
 -- the second clause is checked at each other command
 built_alone : (k : Command) → built (app_with (k ∷ [])) ≡ app_done (k ∷ [])
+built_alone (ForOne IsValidCell index) = refl
 built_alone (ForEach IsValidCell) = refl
 built_alone k = refl
 
 pub alone_is_simple : (k : Command) → is_simple (app_with (k ∷ [])) ≡ true
+alone_is_simple (ForOne IsValidCell index) = refl
 alone_is_simple (ForEach IsValidCell) = refl
 alone_is_simple k = refl
 
 pub alone_is_free : (k : Command) → is_simple_and_free (app_with (k ∷ [])) ≡ true
+alone_is_free (ForOne IsValidCell index) = refl
 alone_is_free (ForEach IsValidCell) = refl
 alone_is_free k = refl
 

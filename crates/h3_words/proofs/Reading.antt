@@ -1,6 +1,7 @@
 -- From a parse that succeeds to what the words ask for.
-use Rattle.std.proofs.Common.{◌≡◌, ◌∙◌, Bool, cond, true, false, refl, sym, ap, ap₂, subst, List, [], ◌∷◌, ◌||◌, drop, is_some, Option, Some, None, inl, inr}
-use Rattle.std.specs.Prelude.{find, IfErr, MatchBool, option_map, option_and_then, Result, Ok, Err, slice_get, unwrap_or}
+use Rattle.std.proofs.Common.{◌≡◌, ◌∙◌, Bool, cond, true, false, refl, sym, ap, subst, List, [], ◌∷◌, drop, is_some, Option, Some, None, inl, inr}
+use Rattle.std.proofs.Math.Path.{fun_ext}
+use Rattle.std.specs.Prelude.{find, IfErr, option_map, option_and_then, Result, Ok, Err, slice_get}
 use Rattle.std.specs.List.{list_any}
 use Rattle.std.specs.Result.{IsErrAnd}
 use Rattle.std.specs.Str.{bytes_eq}
@@ -32,14 +33,9 @@ use Rattle.h3_words.proofs.Lexed as lexed
 use Rattle.h3_words.proofs.Lexed.{given_same}
 use Rattle.h3_words.proofs.Leaf.{Passes, Reads, leaf_reads}
 use Rattle.h3_words.proofs.OptionRules.{row_of_option}
-use Rattle.h3_words.specs.Rows.{AreFileOptions, HasAreas, HasFieldBy, HasFileOfCells, HasFileRows, HasRows, HasTables, IsFieldBy, IsFileField, Texts, default_separator, found_texts, has_names, named_separator, rows_agree, separator_of}
-use Rattle.h3_words.specs.declared.options.CommandOption.TheVariants.{Field, Column, Header, Separator, Csv, As, KeepGoing, Errors, Ragged, RegionColumn, RegionField, ZoneColumn, ZoneField, ZoneName, ZoneNameField, NoZone, Overlapping, Sum, SumField, By, ByField, Table, Region, Zones}
-use Rattle.h3_requests.specs.declared.rows.AreaOptions.{AreaOptions}
-use Rattle.h3_requests.specs.declared.rows.CellField.{CellField}
-use Rattle.h3_requests.specs.declared.rows.CellField.TheVariants as field
-use Rattle.h3_requests.specs.declared.rows.RowOptions.{RowOptions}
+use Rattle.h3_words.specs.Rows.{HasTables, Texts, found_texts, rows_agree}
+use Rattle.h3_words.specs.declared.options.CommandOption.TheVariants.{Table, Region, Zones}
 use Rattle.h3_requests.specs.declared.rows.Tables.{Tables}
-use Rattle.std.specs.Option.{option_map_or}
 use Rattle.h3_words.proofs.Named.{alone_is_free, alone_is_simple, alone_rows, same_fault, whole_fault}
 use Rattle.h3_words.proofs.Names.{word_named}
 use Rattle.h3_words.proofs.Top.{app_enters, app_is_simple}
@@ -197,107 +193,14 @@ asks_for k ws found named are asked is has names rows_are = record {
 
 -- ---- the options of rows
 
--- two readings of the texts that give each option of rows the same
-abbrev pub Alike : Texts → Texts → Type 0
-Alike f g = (o : CommandOption) → f o ≡ g o
-
-pub agree_alike : (f g : Texts) → Alike f g → rows_agree f ≡ rows_agree g
-agree_alike f g e =
-    rw (
-      e Field,
-      e Column,
-      e Header,
-      e Separator,
-      e Csv,
-      e As,
-      e KeepGoing,
-      e Errors,
-      e Ragged,
-      e RegionColumn,
-      e RegionField,
-      e ZoneColumn,
-      e ZoneField,
-      e ZoneName,
-      e ZoneNameField,
-      e NoZone,
-      e Overlapping,
-      e Sum,
-      e SumField,
-      e By,
-      e ByField,
-    ) refl
-
-field_alike : (f g : Texts) (by_number by_name : CommandOption) → Alike f g → (c : CellField)
-    → IsFieldBy f by_number by_name c → IsFieldBy g by_number by_name c
-field_alike f g by_number by_name e (field.Number n) is = (is.0, sym (e by_number) ∙ is.1, is.2, is.3)
-field_alike f g by_number by_name e (field.Column name) is = sym (e by_name) ∙ is
-
-second_alike : (f g : Texts) (by_number by_name : CommandOption) → Alike f g → (c : Option CellField)
-    → HasFieldBy f by_number by_name c → HasFieldBy g by_number by_name c
-second_alike f g by_number by_name e None has = (sym (e by_number) ∙ has.0, sym (e by_name) ∙ has.1)
-second_alike f g by_number by_name e (Some c) has = field_alike f g by_number by_name e c has
-
-separator_alike : (f g : Texts) → Alike f g → separator_of f ≡ separator_of g
-separator_alike f g e =
-    ap₂ (λ s c. option_map_or named_separator s (Some (default_separator (is_some c)))) (e Separator) (e Csv)
-
-pub rows_alike : (f g : Texts) → Alike f g → (rows : Option RowOptions) → HasRows f rows → HasRows g rows
-rows_alike f g e None has = (sym (e Field) ∙ has.0, sym (e Column) ∙ has.1)
-rows_alike f g e (Some rows) has = record {
-  field = field_alike f g Field Column e rows.field has.field;
-  header = has.header ∙ ap₂ (λ a b. is_some a || is_some b) (e Column) (e Header);
-  separator = has.separator ∙ separator_alike f g e;
-  quotes = has.quotes ∙ ap is_some (e Csv);
-  name = has.name ∙ e As;
-  keeps_going = has.keeps_going ∙ ap is_some (e KeepGoing);
-  shows_errors = has.shows_errors ∙ ap is_some (e Errors);
-  is_ragged = has.is_ragged ∙ ap is_some (e Ragged);
-}
-
-file_options_alike : (f g : Texts) → Alike f g → (rows : RowOptions) → AreFileOptions f rows → AreFileOptions g rows
-file_options_alike f g e rows has = record {
-  field = elim has.field as (λ _. IsFileField g rows.field) [
-    | inl is ↦ inl (field_alike f g RegionField RegionColumn e rows.field is)
-    | inr is ↦ inr (field_alike f g ZoneField ZoneColumn e rows.field is)
-  ];
-  header = has.header ∙ ap₂ (λ a b. is_some a || is_some b) (e RegionColumn) (e ZoneColumn);
-  separator = has.separator ∙ separator_alike f g e;
-  quotes = has.quotes ∙ ap is_some (e Csv);
-  name = has.name;
-  keeps_going = has.keeps_going;
-  shows_errors = has.shows_errors;
-  is_ragged = has.is_ragged;
-}
-
-pub file_rows_alike : (f g : Texts) → Alike f g → (rows : Option RowOptions) → HasFileRows f rows → HasFileRows g rows
-file_rows_alike f g e None has = (
-  (sym (e RegionField) ∙ has.0.0, sym (e RegionColumn) ∙ has.0.1),
-  (sym (e ZoneField) ∙ has.1.0, sym (e ZoneColumn) ∙ has.1.1),
-)
-file_rows_alike f g e (Some rows) has = file_options_alike f g e rows has
-
-file_of_cells_alike : (f g : Texts) → Alike f g → (rows : Option RowOptions) → HasFileOfCells f rows
-    → HasFileOfCells g rows
-file_of_cells_alike f g e rows has =
-    go (has_names f) has (ap₂ (λ a b. is_some a || is_some b) (e ZoneNameField) (e ZoneName))
-  where
-    go : (b : Bool) → MatchBool b (rows ≡ None) (HasFileRows f rows) → b ≡ has_names g → HasFileOfCells g rows
-    go true is same = subst (λ b. MatchBool b (rows ≡ None) (HasFileRows g rows)) same is
-    go false is same = subst (λ b. MatchBool b (rows ≡ None) (HasFileRows g rows)) same (file_rows_alike f g e rows is)
-
-areas_alike : (f g : Texts) → Alike f g → (areas : Option AreaOptions) → HasAreas f areas → HasAreas g areas
-areas_alike f g e None has = (sym (e ZoneNameField) ∙ has.0, sym (e ZoneName) ∙ has.1)
-areas_alike f g e (Some areas) has = record {
-  rows = file_options_alike f g e areas.table.rows has.rows;
-  name = field_alike f g ZoneNameField ZoneName e areas.table.name has.name;
-  none = has.none ∙ ap (λ t. unwrap_or t []) (e NoZone);
-  overlapping = has.overlapping ∙ ap is_some (e Overlapping);
-}
+-- each option is given the same text in what a parse found as in the words
+same_texts : (k : Command) (text : Texts) (found : Found) → AreFound k text found → found_texts found ≡ text
+same_texts k text found are = fun_ext (λ o. (are o).same)
 
 -- the options of rows agree in what a parse found as they do in what the words give
 pub agree_found : (k : Command) (text : CommandOption → Option Text) (found : Found) → AreFound k text found
     → rows_agree (found_texts found) ≡ rows_agree text
-agree_found k text found are = agree_alike (found_texts found) text (λ o. (are o).same)
+agree_found k text found are = ap rows_agree (same_texts k text found are)
 
 -- options of rows that are what a parse found are what each text says that it found
 pub rows_are : (k : Command) (found : Found) (tables : Tables) → rows_agree (found_texts found) ≡ true
@@ -305,16 +208,9 @@ pub rows_are : (k : Command) (found : Found) (tables : Tables) → rows_agree (f
     → HasTables (found_texts found) tables)
     → (text : CommandOption → Option Text) → AreFound k text found → HasTables text tables
 rows_are k found tables agree has text are =
-    let alike : Alike (found_texts found) text = λ o. (are o).same in
     let accepted : (o : CommandOption) → IsAccepted o (found_texts found o) =
     λ o. subst (IsAccepted o) (sym (are o).same) (are o).accepted in
-    let all = has agree accepted in (
-      rows_alike (found_texts found) text alike tables.list all.0,
-      second_alike (found_texts found) text SumField Sum alike tables.sum all.1,
-      second_alike (found_texts found) text ByField By alike tables.by all.2,
-      file_of_cells_alike (found_texts found) text alike tables.file all.3,
-      areas_alike (found_texts found) text alike tables.areas all.4,
-    )
+    subst (λ t. HasTables t tables) (same_texts k text found are) (has agree accepted)
 
 -- what is reported of the parse is a refusal of the words
 pub refused : (ws : List Text) (f : ArgsError) → IsFaultOf (fault_of app ws) f → IsRefusalOf ws f

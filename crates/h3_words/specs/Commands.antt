@@ -6,7 +6,7 @@ use Rattle.clap.specs.Words.{App, Shape, Text}
 use Rattle.clap.specs.Simple.{new_shape}
 use Rattle.clap.specs.Walk.{is_empty}
 use Rattle.h3_words.specs.Options.{id_of, rule_for}
-use Rattle.h3_requests.specs.declared.command.IndexFunction.TheVariants as each
+use Rattle.h3_requests.specs.declared.command.IndexFunction.TheVariants as function
 use Rattle.h3_requests.specs.declared.command.Command.{Command}
 use Rattle.h3_requests.specs.declared.command.Command.TheVariants as command
 use Rattle.h3_words.specs.declared.options.CommandOption.{CommandOption}
@@ -15,20 +15,20 @@ use Rattle.h3_words.specs.declared.options.CommandOption.TheVariants as option
 -- commands: a command of each name, with blank values, in the order in which `clap` is given them
 abbrev pub commands : List Command
 commands =
-    command.IsValidCell None ∷
-    command.GetResolution None ∷
-    command.GetBaseCellNumber None ∷
-    command.IsPentagon None ∷
-    command.IsResClassIII None ∷
+    command.ForOne function.IsValidCell None ∷
+    command.ForOne function.GetResolution None ∷
+    command.ForOne function.GetBaseCellNumber None ∷
+    command.ForOne function.IsPentagon None ∷
+    command.ForOne function.IsResClassIII None ∷
     command.GetNumCells (pos 0) ∷
     command.GetRes0Cells ∷
     command.GetPentagons (pos 0) ∷
-    command.CellToParent None (pos 0) ∷
-    command.CellToCenterChild None (pos 0) ∷
-    command.CellToLastChild None (pos 0) ∷
+    command.ForOne (function.CellToParent (pos 0)) None ∷
+    command.ForOne (function.CellToCenterChild (pos 0)) None ∷
+    command.ForOne (function.CellToLastChild (pos 0)) None ∷
     command.CellToChildren None (pos 0) ∷
-    command.CellToChildrenSize None (pos 0) ∷
-    command.CellToChildPos None (pos 0) ∷
+    command.ForOne (function.CellToChildrenSize (pos 0)) None ∷
+    command.ForOne (function.CellToChildPos (pos 0)) None ∷
     command.ChildPosToCell 0 None (pos 0) ∷
     command.CompactCells ∷
     command.UncompactCells (pos 0) ∷
@@ -45,28 +45,28 @@ commands =
     command.GridRingUnsafe None (pos 0) ∷
     command.AreNeighborCells None None ∷
     command.CellsToDirectedEdge None None ∷
-    command.IsValidDirectedEdge None ∷
-    command.GetDirectedEdgeOrigin None ∷
+    command.ForOne function.IsValidDirectedEdge None ∷
+    command.ForOne function.GetDirectedEdgeOrigin None ∷
     command.GetDirectedEdgeDestination None ∷
-    command.OriginToDirectedEdges None ∷
-    command.ForEach each.IsValidCell ∷
-    command.ForEach each.IsValidDirectedEdge ∷
-    command.ForEach each.GetResolution ∷
-    command.ForEach each.GetBaseCellNumber ∷
-    command.ForEach each.IsPentagon ∷
-    command.ForEach each.IsResClassIII ∷
-    command.ForEach (each.CellToParent (pos 0)) ∷
-    command.ForEach (each.CellToCenterChild (pos 0)) ∷
-    command.ForEach (each.CellToLastChild (pos 0)) ∷
+    command.ForOne function.OriginToDirectedEdges None ∷
+    command.ForEach function.IsValidCell ∷
+    command.ForEach function.IsValidDirectedEdge ∷
+    command.ForEach function.GetResolution ∷
+    command.ForEach function.GetBaseCellNumber ∷
+    command.ForEach function.IsPentagon ∷
+    command.ForEach function.IsResClassIII ∷
+    command.ForEach (function.CellToParent (pos 0)) ∷
+    command.ForEach (function.CellToCenterChild (pos 0)) ∷
+    command.ForEach (function.CellToLastChild (pos 0)) ∷
     command.CellsToChildren (pos 0) ∷
-    command.ForEach (each.CellToChildrenSize (pos 0)) ∷
-    command.ForEach (each.CellToChildPos (pos 0)) ∷
+    command.ForEach (function.CellToChildrenSize (pos 0)) ∷
+    command.ForEach (function.CellToChildPos (pos 0)) ∷
     command.GridDisksUnsafe (pos 0) ∷
     command.GridDisksDistancesUnsafe (pos 0) ∷
     command.GridRingsUnsafe (pos 0) ∷
-    command.ForEach each.GetDirectedEdgeOrigin ∷
+    command.ForEach function.GetDirectedEdgeOrigin ∷
     command.GetDirectedEdgeDestinations ∷
-    command.ForEach each.OriginToDirectedEdges ∷
+    command.ForEach function.OriginToDirectedEdges ∷
     []
 
 -- the value that a command has for an option: an index or none, or a number
@@ -119,34 +119,34 @@ by_options = option.By ∷ option.ByField ∷ []
 
 -- call_of command: the word of a `Command`, the values that it has for its options, and its other options
 abbrev pub call_of : Command → Call
-call_of (command.IsValidCell cell) =
+call_of (command.ForOne function.IsValidCell cell) =
     record { word = codes "isValidCell"; values = Index option.Cell cell ∷ []; others = [] }
-call_of (command.GetResolution cell) =
+call_of (command.ForOne function.GetResolution cell) =
     record { word = codes "getResolution"; values = Index option.Cell cell ∷ []; others = [] }
-call_of (command.GetBaseCellNumber cell) =
+call_of (command.ForOne function.GetBaseCellNumber cell) =
     record { word = codes "getBaseCellNumber"; values = Index option.Cell cell ∷ []; others = [] }
-call_of (command.IsPentagon cell) =
+call_of (command.ForOne function.IsPentagon cell) =
     record { word = codes "isPentagon"; values = Index option.Cell cell ∷ []; others = [] }
-call_of (command.IsResClassIII cell) =
+call_of (command.ForOne function.IsResClassIII cell) =
     record { word = codes "isResClassIII"; values = Index option.Cell cell ∷ []; others = [] }
 call_of (command.GetNumCells res) =
     record { word = codes "getNumCells"; values = Number option.Resolution res ∷ []; others = [] }
 call_of command.GetRes0Cells = record { word = codes "getRes0Cells"; values = []; others = [] }
 call_of (command.GetPentagons res) =
     record { word = codes "getPentagons"; values = Number option.Resolution res ∷ []; others = [] }
-call_of (command.CellToParent cell res) =
+call_of (command.ForOne (function.CellToParent res) cell) =
     record {
       word = codes "cellToParent";
       values = Index option.Cell cell ∷ Number option.Resolution res ∷ [];
       others = [];
     }
-call_of (command.CellToCenterChild cell res) =
+call_of (command.ForOne (function.CellToCenterChild res) cell) =
     record {
       word = codes "cellToCenterChild";
       values = Index option.Cell cell ∷ Number option.Resolution res ∷ [];
       others = [];
     }
-call_of (command.CellToLastChild cell res) =
+call_of (command.ForOne (function.CellToLastChild res) cell) =
     record {
       word = codes "cellToLastChild";
       values = Index option.Cell cell ∷ Number option.Resolution res ∷ [];
@@ -158,13 +158,13 @@ call_of (command.CellToChildren cell res) =
       values = Index option.Cell cell ∷ Number option.Resolution res ∷ [];
       others = [];
     }
-call_of (command.CellToChildrenSize cell res) =
+call_of (command.ForOne (function.CellToChildrenSize res) cell) =
     record {
       word = codes "cellToChildrenSize";
       values = Index option.Cell cell ∷ Number option.Resolution res ∷ [];
       others = [];
     }
-call_of (command.CellToChildPos cell res) =
+call_of (command.ForOne (function.CellToChildPos res) cell) =
     record {
       word = codes "cellToChildPos";
       values = Index option.Cell cell ∷ Number option.Resolution res ∷ [];
@@ -240,9 +240,9 @@ call_of (command.CellsToDirectedEdge cell to) =
       values = Index option.Cell cell ∷ Index option.To to ∷ [];
       others = option.Table ∷ [];
     }
-call_of (command.IsValidDirectedEdge edge) =
+call_of (command.ForOne function.IsValidDirectedEdge edge) =
     record { word = codes "isValidDirectedEdge"; values = Index option.Edge edge ∷ []; others = [] }
-call_of (command.GetDirectedEdgeOrigin edge) =
+call_of (command.ForOne function.GetDirectedEdgeOrigin edge) =
     record { word = codes "getDirectedEdgeOrigin"; values = Index option.Edge edge ∷ []; others = [] }
 call_of (command.GetDirectedEdgeDestination edge) =
     record {
@@ -250,31 +250,33 @@ call_of (command.GetDirectedEdgeDestination edge) =
       values = Index option.Edge edge ∷ [];
       others = option.Table ∷ [];
     }
-call_of (command.OriginToDirectedEdges cell) =
+call_of (command.ForOne function.OriginToDirectedEdges cell) =
     record { word = codes "originToDirectedEdges"; values = Index option.Cell cell ∷ []; others = [] }
-call_of (command.ForEach each.IsValidCell) = record { word = codes "areValidCells"; values = []; others = line_options }
-call_of (command.ForEach each.IsValidDirectedEdge) =
+call_of (command.ForEach function.IsValidCell) =
+    record { word = codes "areValidCells"; values = []; others = line_options }
+call_of (command.ForEach function.IsValidDirectedEdge) =
     record { word = codes "areValidDirectedEdges"; values = []; others = line_options }
-call_of (command.ForEach each.GetResolution) =
+call_of (command.ForEach function.GetResolution) =
     record { word = codes "getResolutions"; values = []; others = line_options }
-call_of (command.ForEach each.GetBaseCellNumber) =
+call_of (command.ForEach function.GetBaseCellNumber) =
     record { word = codes "getBaseCellNumbers"; values = []; others = line_options }
-call_of (command.ForEach each.IsPentagon) = record { word = codes "arePentagons"; values = []; others = line_options }
-call_of (command.ForEach each.IsResClassIII) =
+call_of (command.ForEach function.IsPentagon) =
+    record { word = codes "arePentagons"; values = []; others = line_options }
+call_of (command.ForEach function.IsResClassIII) =
     record { word = codes "areResClassIII"; values = []; others = line_options }
-call_of (command.ForEach (each.CellToParent res)) =
+call_of (command.ForEach (function.CellToParent res)) =
     record { word = codes "cellsToParents"; values = Number option.Resolution res ∷ []; others = line_options }
-call_of (command.ForEach (each.CellToCenterChild res)) =
+call_of (command.ForEach (function.CellToCenterChild res)) =
     record { word = codes "cellsToCenterChildren"; values = Number option.Resolution res ∷ []; others = line_options }
-call_of (command.ForEach (each.CellToLastChild res)) =
+call_of (command.ForEach (function.CellToLastChild res)) =
     record { word = codes "cellsToLastChildren"; values = Number option.Resolution res ∷ []; others = line_options }
-call_of (command.ForEach (each.CellToChildrenSize res)) =
+call_of (command.ForEach (function.CellToChildrenSize res)) =
     record { word = codes "cellsToChildrenSizes"; values = Number option.Resolution res ∷ []; others = line_options }
-call_of (command.ForEach (each.CellToChildPos res)) =
+call_of (command.ForEach (function.CellToChildPos res)) =
     record { word = codes "cellsToChildPositions"; values = Number option.Resolution res ∷ []; others = line_options }
-call_of (command.ForEach each.GetDirectedEdgeOrigin) =
+call_of (command.ForEach function.GetDirectedEdgeOrigin) =
     record { word = codes "getDirectedEdgeOrigins"; values = []; others = line_options }
-call_of (command.ForEach each.OriginToDirectedEdges) =
+call_of (command.ForEach function.OriginToDirectedEdges) =
     record { word = codes "originsToDirectedEdges"; values = []; others = line_options }
 call_of (command.CellsToChildren res) =
     record { word = codes "cellsToChildren"; values = Number option.Resolution res ∷ []; others = line_options }

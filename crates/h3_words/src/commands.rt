@@ -20,16 +20,19 @@ use std::alloc::{AllocError, Global};
 // A command with the values of its fields, each read by the function of its name.
 macro_rules! filled_command {
     ($value:ident $matches:ident; $(
-        ($command:ident $({ $($field:ident),* })? $(($function:ident $({ $($given:ident),* })?))?)
-        $entry:tt $line:tt $texts:tt;
+        (
+            $command:ident $({ $($field:ident),* })?
+            $(($function:ident $({ $($given:ident),* })?) $(of $index:ident)?)?
+        )
+        $line:tt $entry:tt;
     )*) => {
         match $value {
             $(Command::$command
                 $({ $($field: _),* })?
-                $((IndexFunction::$function $({ $($given: _),* })?))?
+                $((IndexFunction::$function $({ $($given: _),* })?, ..))?
             => Command::$command
                 $({ $($field: $field($matches)),* })?
-                $((IndexFunction::$function $({ $($given: $given($matches)),* })?))?),*
+                $((IndexFunction::$function $({ $($given: $given($matches)),* })? $(, $index($matches))?))?),*
         }
     };
 }
@@ -121,17 +124,10 @@ pub(crate) fn filled(command: Command, matches: &ArgMatches<'_>) -> Command
 }
 
 /// Whether the command has the option.
-fn has_option(command: Command, option: CommandOption) -> bool
+pub(crate) fn has_option(command: Command, option: CommandOption) -> bool
     ensures { result ≡ has_option command option }
 {
     options(command).iter().any(|own| own.id() == option.id())
-}
-
-/// Whether the command reads a list: it has `--field`.
-pub fn reads_list(command: Command) -> bool
-    ensures { result ≡ has_option command CommandOption.Field }
-{
-    has_option(command, Field)
 }
 
 /// The path that the option is given, where the command has the option.

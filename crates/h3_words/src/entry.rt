@@ -42,13 +42,16 @@ macro_rules! blank {
 // The commands of all rows, with blank values.
 macro_rules! blank_commands {
     ($(
-        ($command:ident $({ $($field:ident),* })? $(($function:ident $({ $($given:ident),* })?))?)
-        $entry:tt $line:tt $texts:tt;
+        (
+            $command:ident $({ $($field:ident),* })?
+            $(($function:ident $({ $($given:ident),* })?) $(of $index:ident)?)?
+        )
+        $line:tt $entry:tt;
     )*) => {
         &[$(
             Command::$command
                 $({ $($field: blank!($field)),* })?
-                $((IndexFunction::$function $({ $($given: blank!($given)),* })?))?
+                $((IndexFunction::$function $({ $($given: blank!($given)),* })? $(, blank!($index))?))?
         ),*]
     };
 }
@@ -59,33 +62,36 @@ pub(crate) static COMMANDS: &[Command] = commands!(blank_commands!);
 
 // A part of a row.
 macro_rules! part {
-    (word { word: $word:expr, options: $options:expr } $texts:tt) => {
+    (word { word: $word:expr, $($rest:tt)* }) => {
         $word
     };
-    (options { word: $word:expr, options: $options:expr } $texts:tt) => {
+    (options { word: $word:expr, options: $options:expr, $($rest:tt)* }) => {
         $options
     };
-    (about $entry:tt { about: $about:expr, notes: $notes:expr, usage: $usage:expr, }) => {
-        $about
-    };
-    (notes $entry:tt { about: $about:expr, notes: $notes:expr, usage: $usage:expr, }) => {
-        $notes
-    };
-    (usage $entry:tt { about: $about:expr, notes: $notes:expr, usage: $usage:expr, }) => {
-        $usage
+    (texts {
+        word: $word:expr,
+        options: $options:expr,
+        about: $about:literal,
+        notes: $notes:literal,
+        usage: $usage:literal,
+    }) => {
+        concat!($about, "\n", $usage, "\n", $notes)
     };
 }
 
 // That part of the row of a command.
 macro_rules! part_of_command {
     ($value:ident $part:ident; $(
-        ($command:ident $({ $($field:ident),* })? $(($function:ident $({ $($given:ident),* })?))?)
-        $entry:tt $line:tt $texts:tt;
+        (
+            $command:ident $({ $($field:ident),* })?
+            $(($function:ident $({ $($given:ident),* })?) $(of $index:ident)?)?
+        )
+        $line:tt $entry:tt;
     )*) => {
         match $value {
             $(Command::$command
                 $({ $($field: _),* })?
-                $((IndexFunction::$function $({ $($given: _),* })?))? => part!($part $entry $texts)),*
+                $((IndexFunction::$function $({ $($given: _),* })?, ..))? => part!($part $entry)),*
         }
     };
 }
@@ -117,18 +123,9 @@ pub(crate) fn entry_of<'a>(command: Command) -> Entry<'a>
     }
 }
 
-/// What the help of a command begins with.
-pub(crate) fn about<'a>(command: Command) -> &'a str {
-    commands!(part_of_command! command about;)
-}
-
-/// What the help of a command ends with: its errors, in the order they are checked, and an example.
-pub(crate) fn notes<'a>(command: Command) -> &'a str {
-    commands!(part_of_command! command notes;)
-}
-
-/// The usage of a command that reads a list, or whose usage would be too long; `clap` makes that of any
-/// other.
-pub(crate) fn usage<'a>(command: Command) -> Option<&'a str> {
-    commands!(part_of_command! command usage;)
+/// What the help of a command says, as its row of the table has it, in lines: what it begins with; the usage of a
+/// command that reads a list, or whose usage would be too long, and else an empty line; and, in all further lines, what
+/// it ends with, which is its errors, in the order they are checked, and an example.
+pub(crate) fn texts_of(command: Command) -> &'static str {
+    commands!(part_of_command! command texts;)
 }

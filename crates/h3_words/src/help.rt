@@ -6,7 +6,7 @@ ghost use Rattle.clap.specs.declared.builder.command.Command.TheViews.{out-Comma
 ghost use Rattle.h3_words.specs.Commands.{word_of};
 
 use crate::commands::word;
-use crate::entry::{about, notes, usage};
+use crate::entry::texts_of;
 use crate::table::commands;
 use clap::Command as Parser;
 use h3_requests::Command;
@@ -16,35 +16,35 @@ use std::alloc::Global;
 macro_rules! help {
     (
         [$($own:literal)*] $hierarchy:tt $table:tt $edges:tt $lists:tt;
-        $command:tt $entry:tt [cells $line:literal] $texts:tt;
+        $command:tt [cells $line:literal] $entry:tt;
         $($rest:tt)*
     ) => {
         help!([$($own)* $line] $hierarchy $table $edges $lists; $($rest)*)
     };
     (
         $cells:tt [$($own:literal)*] $table:tt $edges:tt $lists:tt;
-        $command:tt $entry:tt [hierarchy $line:literal] $texts:tt;
+        $command:tt [hierarchy $line:literal] $entry:tt;
         $($rest:tt)*
     ) => {
         help!($cells [$($own)* $line] $table $edges $lists; $($rest)*)
     };
     (
         $cells:tt $hierarchy:tt [$($own:literal)*] $edges:tt $lists:tt;
-        $command:tt $entry:tt [table $line:literal] $texts:tt;
+        $command:tt [table $line:literal] $entry:tt;
         $($rest:tt)*
     ) => {
         help!($cells $hierarchy [$($own)* $line] $edges $lists; $($rest)*)
     };
     (
         $cells:tt $hierarchy:tt $table:tt [$($own:literal)*] $lists:tt;
-        $command:tt $entry:tt [edges $line:literal] $texts:tt;
+        $command:tt [edges $line:literal] $entry:tt;
         $($rest:tt)*
     ) => {
         help!($cells $hierarchy $table [$($own)* $line] $lists; $($rest)*)
     };
     (
         $cells:tt $hierarchy:tt $table:tt $edges:tt [$($own:literal)*];
-        $command:tt $entry:tt [lists $line:literal] $texts:tt;
+        $command:tt [lists $line:literal] $entry:tt;
         $($rest:tt)*
     ) => {
         help!($cells $hierarchy $table $edges [$($own)* $line]; $($rest)*)
@@ -81,9 +81,20 @@ macro_rules! help {
 /// What `h3 --help` prints: the commands by what they are for, in lines of at most 80 characters.
 pub(crate) const HELP: &str = commands!(help! [] [] [] [] [];);
 
+/// What the help of a command begins with, the usage of the command in the table, and what its help ends with.
+fn parts_of_help(command: Command) -> (&'static str, &'static str, &'static str) {
+    let (about, rest) = texts_of(command).split_once('\n').unwrap_or(("", ""));
+    let (usage, notes) = rest.split_once('\n').unwrap_or(("", ""));
+    (about, usage, notes)
+}
+
 /// The usage of a command in the table, or its word if that has none.
-pub(crate) fn list_usage<'a>(command: Command) -> &'a str {
-    usage(command).unwrap_or(word(command))
+pub(crate) fn list_usage(command: Command) -> &'static str {
+    let (_, usage, _) = parts_of_help(command);
+    if usage.is_empty() {
+        return word(command);
+    }
+    usage
 }
 
 /// The command with its texts of help, and without its options.
@@ -91,11 +102,12 @@ pub(crate) fn described<'a>(alloc: Global, command: Command) -> Parser<'a>
     ensures app { app_of result ≡ new_app (word_of command) }
     ensures local { (out-Command result).has_globals ≡ false }
 {
+    let (about, usage, notes) = parts_of_help(command);
     let parser = Parser::new(alloc, word(command))
-        .about(about(command))
-        .after_help(notes(command));
-    match usage(command) {
-        Some(usage) => parser.override_usage(usage),
-        None => parser,
+        .about(about)
+        .after_help(notes);
+    if usage.is_empty() {
+        return parser;
     }
+    parser.override_usage(usage)
 }

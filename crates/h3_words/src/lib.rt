@@ -10,6 +10,5 @@ mod rows;
 mod table;
 mod words;
 
-pub use commands::reads_list;
 pub use options::CommandFile;
-pub use words::{ArgsError, Words, read_words};
+pub use words::{ArgsError, ListKind, Words, list_of, read_words};

@@ -1,21 +1,23 @@
 //! The words of a command line.
 
-ghost use Rattle.std.specs.Prelude.{◌≡◌, [], true, false, drop, Err, IfOk, IfErr, None, OnOk, Option, Some, map, string_bytes};
+ghost use Rattle.std.specs.Prelude.{◌≡◌, [], true, false, drop, ◌↔◌, IfOk, IfErr, IfSome, IsSome, None, OnOk, Option, Some, is_some, map, string_bytes};
 ghost use Rattle.clap.specs.Words.{Text, fault_of, found_of, kind_of};
 ghost use Rattle.h3_words.specs.Call.{IsPlainCall};
-ghost use Rattle.h3_words.specs.Commands.{app, command_of, entry_of, values_of_command};
+ghost use Rattle.h3_words.specs.Commands.{app, command_of, entry_of, has_option, values_of_command};
 ghost use Rattle.h3_words.specs.Faults.{IsFaultOf, IsRefusalOf, IsReportedAs};
 ghost use Rattle.h3_words.specs.Given.{given};
+ghost use Rattle.h3_words.specs.Parse.{ParsesAs};
 ghost use Rattle.h3_words.specs.Rows.{HasTables, found_texts, rows_agree};
 ghost use Rattle.h3_words.specs.Values.{AreFound, AreRead, AsksFor, HasFile, IsAccepted};
 ghost use Rattle.h3_words.specs.Version.{asks_version};
 ghost use Rattle.h3_words.specs.declared.options.CommandOption.{CommandOption};
-ghost use Rattle.h3_words.specs.declared.words.ArgsError.TheVariants.{Memory, Version};
+ghost use Rattle.h3_words.specs.declared.words.ListKind.TheVariants.{Rows};
+ghost use Rattle.h3_words.specs.declared.words.ArgsError.TheVariants.{Memory};
 
-use crate::commands::{command_line, file, filled, named_by};
+use crate::commands::{command_line, file, filled, has_option, named_by};
 use crate::entry::COMMANDS;
 use crate::help::list_usage;
-use crate::options::{CommandFile, OPTIONS};
+use crate::options::{CommandFile, CommandOption, OPTIONS};
 use crate::rows::{rows_agree, rows_fault, tables};
 use clap::ArgMatches;
 use clap::error::ErrorKind;
@@ -239,18 +241,40 @@ fn parse_words(alloc: Global, words: &[String]) -> Result<Words, ArgsError>
 ///   requires, none twice, each value in range, and those of rows with what they go with.
 /// - [`ArgsError::Memory`] if there is no memory for the parse.
 pub fn read_words(alloc: Global, words: Vec<String>) -> Result<Words, ArgsError>
-    ensures read { IfOk result (AsksFor (map string_bytes words.items)) }
-    ensures accepted { OnOk result (fault_of app (map string_bytes words.items) ≡ []) }
-    ensures agreed { OnOk result
-        (rows_agree (λ option. given option (drop 2 (map string_bytes words.items))) ≡ true) }
-    ensures taken { IsPlainCall (map string_bytes words.items)
-        → IfErr result (λ fault. fault ≡ Memory) }
-    ensures version { asks_version (map string_bytes words.items) ≡ true → result ≡ Err Version }
-    ensures faults { asks_version (map string_bytes words.items) ≡ false
-        → IfErr result (IsRefusalOf (map string_bytes words.items)) }
+    ensures { ParsesAs (map string_bytes words.items) result }
 {
     if asks_for_version(words.as_slice()) {
         return Err(ArgsError::Version);
     }
     parse_words(alloc, words.as_slice())
+}
+
+/// What a command reads on standard input.
+#[derive(Clone, Copy, PartialEq, Eq)]
+pub enum ListKind {
+    /// Cells, one a line.
+    Cells,
+
+    /// Edges, one a line.
+    Edges,
+
+    /// Rows.
+    Rows,
+}
+
+/// What these words have a command read on standard input; `None` if it reads no list: it has no `--field`.
+pub fn list_of(words: &Words) -> Option<ListKind>
+    ensures list { is_some result ≡ has_option words.now.command CommandOption.Field }
+    ensures rows { IfSome result (λ list. list ≡ Rows ↔ IsSome words.now.tables.list) }
+{
+    if !has_option(words.command, CommandOption::Field) {
+        return None;
+    }
+    if words.tables.list.is_some() {
+        return Some(ListKind::Rows);
+    }
+    if list_usage(words.command).ends_with("< edges") {
+        return Some(ListKind::Edges);
+    }
+    Some(ListKind::Cells)
 }

@@ -1,10 +1,19 @@
-use Rattle.std.proofs.Common.{◌≡◌, true, drop, map, subst}
-use Rattle.std.specs.Prelude.{OnOk, string_bytes}
-use Rattle.h3_words.specs.Given.{given}
-use Rattle.h3_words.specs.Rows.{rows_agree}
+use Rattle.std.proofs.Common.{◌∙◌, sym, ap, map, subst, true≢false}
+use Rattle.std.specs.Prelude.{string_bytes}
+use Rattle.h3_words.specs.Parse.{ParsesAs}
+use Rattle.h3_words.specs.Version.{asks_version}
 use Rattle.h3_words.proofs.words.read_words.Goals as goal
 
-pub returns-clause-agreed : goal.returns-clause-agreed
-returns-clause-agreed c =
-    subst (λ words. OnOk c.parse_words.result (rows_agree (λ option. given option (drop 2 (map string_bytes words)))
-    ≡ true)) c.as_slice-2.ensures.value c.parse_words.ensures.agreed
+pub returns : goal.returns
+returns c =
+    let parsed = c.parse_words.ensures in
+    subst (λ ws. ParsesAs (map string_bytes ws) c.parse_words.result) c.as_slice-2.ensures.value (record {
+      read = parsed.read;
+      accepted = parsed.accepted;
+      agreed = parsed.agreed;
+      taken = parsed.taken;
+      version = λ asked. absurd (true≢false (sym asked
+          ∙ ap (λ ws. asks_version (map string_bytes ws)) (c.as_slice-2.ensures.value ∙ sym c.as_slice.ensures.value)
+          ∙ sym c.asks_for_version.ensures ∙ c.if-asks_for_version.false));
+      faults = λ _. parsed.faults;
+    })
