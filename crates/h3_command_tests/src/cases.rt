@@ -350,7 +350,7 @@ pub const BELOW_BASE_20: &str =
 /// Commands that read nothing.
 pub static PLAIN_CASES: [Case<'static>; 4] = [
     Case {
-        command: Command::IsValidCell { cell: HEXAGON },
+        command: Command::ForOne(IndexFunction::IsValidCell, HEXAGON),
         reads: Reads::Nothing,
         output: "true\n",
         line: "",
@@ -367,7 +367,7 @@ pub static PLAIN_CASES: [Case<'static>; 4] = [
         status: 0,
     },
     Case {
-        command: Command::OriginToDirectedEdges { cell: HEXAGON },
+        command: Command::ForOne(IndexFunction::OriginToDirectedEdges, HEXAGON),
         reads: Reads::Nothing,
         output: "115283473fffffff\n125283473fffffff\n135283473fffffff\n145283473fffffff\n\
                  155283473fffffff\n165283473fffffff\n",
@@ -375,7 +375,7 @@ pub static PLAIN_CASES: [Case<'static>; 4] = [
         status: 0,
     },
     Case {
-        command: Command::IsValidCell { cell: None },
+        command: Command::ForOne(IndexFunction::IsValidCell, None),
         reads: Reads::Nothing,
         output: "",
         line: "error 1: E_FAILED\n",

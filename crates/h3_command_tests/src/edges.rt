@@ -4,7 +4,7 @@ use crate::cases::{answers_over, index_of, refuses, refuses_table, writes};
 use crate::expected::{expect, expect_all, expect_row};
 use arrayvec::ArrayString;
 use h3_fakes::table_file;
-use h3_requests::Command;
+use h3_requests::{Command, IndexFunction};
 use h3_table::vectors::TestTable;
 use std::alloc::Global;
 use std::process::Abort;
@@ -24,15 +24,11 @@ fn edge_between(cell: &str, to: &str) -> Command {
 }
 
 fn is_edge(edge: &str) -> Command {
-    Command::IsValidDirectedEdge {
-        edge: index_of(edge),
-    }
+    Command::ForOne(IndexFunction::IsValidDirectedEdge, index_of(edge))
 }
 
 fn origin(edge: &str) -> Command {
-    Command::GetDirectedEdgeOrigin {
-        edge: index_of(edge),
-    }
+    Command::ForOne(IndexFunction::GetDirectedEdgeOrigin, index_of(edge))
 }
 
 fn destination(edge: &str) -> Command {
@@ -42,9 +38,7 @@ fn destination(edge: &str) -> Command {
 }
 
 fn edges(cell: &str) -> Command {
-    Command::OriginToDirectedEdges {
-        cell: index_of(cell),
-    }
+    Command::ForOne(IndexFunction::OriginToDirectedEdges, index_of(cell))
 }
 
 const FAILED: &str = "error 1: E_FAILED\n";

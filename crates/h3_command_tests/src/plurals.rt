@@ -32,27 +32,6 @@ macro_rules! functions {
     };
 }
 
-/// The command that answers a function for an index alone.
-fn singular(function: IndexFunction, index: Option<u64>) -> Command {
-    let cell = index;
-    let edge = index;
-    match function {
-        IndexFunction::IsValidCell => Command::IsValidCell { cell },
-        IndexFunction::IsValidDirectedEdge => Command::IsValidDirectedEdge { edge },
-        IndexFunction::GetResolution => Command::GetResolution { cell },
-        IndexFunction::GetBaseCellNumber => Command::GetBaseCellNumber { cell },
-        IndexFunction::IsPentagon => Command::IsPentagon { cell },
-        IndexFunction::IsResClassIII => Command::IsResClassIII { cell },
-        IndexFunction::CellToParent { res } => Command::CellToParent { cell, res },
-        IndexFunction::CellToCenterChild { res } => Command::CellToCenterChild { cell, res },
-        IndexFunction::CellToLastChild { res } => Command::CellToLastChild { cell, res },
-        IndexFunction::CellToChildrenSize { res } => Command::CellToChildrenSize { cell, res },
-        IndexFunction::CellToChildPos { res } => Command::CellToChildPos { cell, res },
-        IndexFunction::GetDirectedEdgeOrigin => Command::GetDirectedEdgeOrigin { edge },
-        IndexFunction::OriginToDirectedEdges => Command::OriginToDirectedEdges { cell },
-    }
-}
-
 /// What a run should write, and its exit status.
 #[derive(Drop)]
 pub struct Answer {
@@ -114,7 +93,7 @@ pub fn answer_to(alloc: Global, function: IndexFunction, list: &str) -> Answer {
         if is_passed_over(line) {
             continue;
         }
-        let command = singular(function, index_on(line));
+        let command = Command::ForOne(function, index_on(line));
         let run = whole(command, Reads::Nothing, "").read(alloc, 1, NO_FAULT);
         let _ = answer.output.try_push_str(text(run.out.bytes()));
         if run.status != 0 {

@@ -6,7 +6,7 @@ use crate::cases::{
 };
 use crate::expected::{expect, expect_all, expect_res, expect_row};
 use h3_fakes::NO_FAULT;
-use h3_requests::Command;
+use h3_requests::{Command, IndexFunction};
 use std::alloc::Global;
 
 /// The line for a word that parses as no index.
@@ -43,7 +43,7 @@ static TESTED: [(&str, &str); 8] = [
 fn cells_are_tested(rt: HostRuntime) {
     for (word, line) in &TESTED {
         let cell = index_of(word);
-        let command = Command::IsValidCell { cell };
+        let command = Command::ForOne(IndexFunction::IsValidCell, cell);
         expect(&rt, word, writes(rt.alloc(), command, line));
     }
 }
@@ -55,41 +55,75 @@ static NO_INDEXES: [&str; 3] = ["xyz", "00085283473fffffff", ""];
 fn words_that_parse_as_no_index_are_refused(rt: HostRuntime) {
     for word in &NO_INDEXES {
         let cell = index_of(word);
-        let refused = refuses(rt.alloc(), Command::IsValidCell { cell }, FAILED)
-            && refuses(rt.alloc(), Command::GetBaseCellNumber { cell }, FAILED)
-            && refuses(
-                rt.alloc(),
-                Command::CellToChildren { cell, res: 16 },
-                FAILED,
-            );
+        let refused = refuses(
+            rt.alloc(),
+            Command::ForOne(IndexFunction::IsValidCell, cell),
+            FAILED,
+        ) && refuses(
+            rt.alloc(),
+            Command::ForOne(IndexFunction::GetBaseCellNumber, cell),
+            FAILED,
+        ) && refuses(
+            rt.alloc(),
+            Command::CellToChildren { cell, res: 16 },
+            FAILED,
+        );
         expect(&rt, word, refused);
     }
 }
 
 /// What a cell says, and whether an index is one.
 static PARTS: [Row; 10] = [
-    (Command::GetResolution { cell: HEXAGON }, "5\n", ""),
-    (Command::GetBaseCellNumber { cell: HEXAGON }, "20\n", ""),
-    (Command::IsPentagon { cell: HEXAGON }, "false\n", ""),
     (
-        Command::IsPentagon {
-            cell: Some(0x81083ffffffffff),
-        },
+        Command::ForOne(IndexFunction::GetResolution, HEXAGON),
+        "5\n",
+        "",
+    ),
+    (
+        Command::ForOne(IndexFunction::GetBaseCellNumber, HEXAGON),
+        "20\n",
+        "",
+    ),
+    (
+        Command::ForOne(IndexFunction::IsPentagon, HEXAGON),
+        "false\n",
+        "",
+    ),
+    (
+        Command::ForOne(IndexFunction::IsPentagon, Some(0x81083ffffffffff)),
         "true\n",
         "",
     ),
     (
-        Command::IsPentagon {
-            cell: Some(0x8108bffffffffff),
-        },
+        Command::ForOne(IndexFunction::IsPentagon, Some(0x8108bffffffffff)),
         "false\n",
         "",
     ),
-    (Command::IsResClassIII { cell: HEXAGON }, "true\n", ""),
-    (Command::IsResClassIII { cell: PENTAGON }, "false\n", ""),
-    (Command::GetResolution { cell: NO_CELL }, "", CELL_INVALID),
-    (Command::IsPentagon { cell: NO_CELL }, "", CELL_INVALID),
-    (Command::IsResClassIII { cell: NO_CELL }, "", CELL_INVALID),
+    (
+        Command::ForOne(IndexFunction::IsResClassIII, HEXAGON),
+        "true\n",
+        "",
+    ),
+    (
+        Command::ForOne(IndexFunction::IsResClassIII, PENTAGON),
+        "false\n",
+        "",
+    ),
+    (
+        Command::ForOne(IndexFunction::GetResolution, NO_CELL),
+        "",
+        CELL_INVALID,
+    ),
+    (
+        Command::ForOne(IndexFunction::IsPentagon, NO_CELL),
+        "",
+        CELL_INVALID,
+    ),
+    (
+        Command::ForOne(IndexFunction::IsResClassIII, NO_CELL),
+        "",
+        CELL_INVALID,
+    ),
 ];
 
 #[test]
@@ -172,18 +206,12 @@ static ANCESTORS: [(i32, &str, &str); 4] = [
 #[test]
 fn ancestors_are_written(rt: HostRuntime) {
     for (res, output, line) in &ANCESTORS {
-        let command = Command::CellToParent {
-            cell: HEXAGON,
-            res: *res,
-        };
+        let command = Command::ForOne(IndexFunction::CellToParent { res: *res }, HEXAGON);
         let row = (command, *output, *line);
         expect_res(&rt, *res, answers_row(rt.alloc(), &row));
     }
     // an index of no cell, before a resolution that is not allowed
-    let no_cell = Command::CellToParent {
-        cell: NO_CELL,
-        res: 16,
-    };
+    let no_cell = Command::ForOne(IndexFunction::CellToParent { res: 16 }, NO_CELL);
     expect(
         &rt,
         "an index of no cell",
@@ -194,34 +222,22 @@ fn ancestors_are_written(rt: HostRuntime) {
 /// Descendants, and numbers of them.
 static DESCENDANTS: [Row; 17] = [
     (
-        Command::CellToCenterChild {
-            cell: HEXAGON,
-            res: 15,
-        },
+        Command::ForOne(IndexFunction::CellToCenterChild { res: 15 }, HEXAGON),
         "8f2834700000000\n",
         "",
     ),
     (
-        Command::CellToLastChild {
-            cell: HEXAGON,
-            res: 7,
-        },
+        Command::ForOne(IndexFunction::CellToLastChild { res: 7 }, HEXAGON),
         "872834736ffffff\n",
         "",
     ),
     (
-        Command::CellToLastChild {
-            cell: HEXAGON,
-            res: 5,
-        },
+        Command::ForOne(IndexFunction::CellToLastChild { res: 5 }, HEXAGON),
         "85283473fffffff\n",
         "",
     ),
     (
-        Command::CellToLastChild {
-            cell: PENTAGON,
-            res: 1,
-        },
+        Command::ForOne(IndexFunction::CellToLastChild { res: 1 }, PENTAGON),
         "8109bffffffffff\n",
         "",
     ),
@@ -251,34 +267,22 @@ static DESCENDANTS: [Row; 17] = [
         "",
     ),
     (
-        Command::CellToChildrenSize {
-            cell: BASE_20,
-            res: 15,
-        },
+        Command::ForOne(IndexFunction::CellToChildrenSize { res: 15 }, BASE_20),
         "4747561509943\n",
         "",
     ),
     (
-        Command::CellToChildrenSize {
-            cell: PENTAGON,
-            res: 15,
-        },
+        Command::ForOne(IndexFunction::CellToChildrenSize { res: 15 }, PENTAGON),
         "3956301258286\n",
         "",
     ),
     (
-        Command::CellToCenterChild {
-            cell: HEXAGON,
-            res: 4,
-        },
+        Command::ForOne(IndexFunction::CellToCenterChild { res: 4 }, HEXAGON),
         "",
         RES_DOMAIN,
     ),
     (
-        Command::CellToLastChild {
-            cell: HEXAGON,
-            res: 4,
-        },
+        Command::ForOne(IndexFunction::CellToLastChild { res: 4 }, HEXAGON),
         "",
         RES_DOMAIN,
     ),
@@ -291,26 +295,17 @@ static DESCENDANTS: [Row; 17] = [
         RES_DOMAIN,
     ),
     (
-        Command::CellToChildrenSize {
-            cell: HEXAGON,
-            res: 4,
-        },
+        Command::ForOne(IndexFunction::CellToChildrenSize { res: 4 }, HEXAGON),
         "",
         RES_DOMAIN,
     ),
     (
-        Command::CellToCenterChild {
-            cell: HEXAGON,
-            res: 16,
-        },
+        Command::ForOne(IndexFunction::CellToCenterChild { res: 16 }, HEXAGON),
         "",
         RES_DOMAIN,
     ),
     (
-        Command::CellToLastChild {
-            cell: HEXAGON,
-            res: 16,
-        },
+        Command::ForOne(IndexFunction::CellToLastChild { res: 16 }, HEXAGON),
         "",
         RES_DOMAIN,
     ),
@@ -323,10 +318,7 @@ static DESCENDANTS: [Row; 17] = [
         RES_DOMAIN,
     ),
     (
-        Command::CellToChildrenSize {
-            cell: HEXAGON,
-            res: 16,
-        },
+        Command::ForOne(IndexFunction::CellToChildrenSize { res: 16 }, HEXAGON),
         "",
         RES_DOMAIN,
     ),
@@ -355,10 +347,7 @@ static POSITIONS: [(&str, i32, &str, &str); 7] = [
 #[test]
 fn positions_are_written(rt: HostRuntime) {
     for (number, (word, res, output, line)) in POSITIONS.iter().enumerate() {
-        let command = Command::CellToChildPos {
-            cell: index_of(word),
-            res: *res,
-        };
+        let command = Command::ForOne(IndexFunction::CellToChildPos { res: *res }, index_of(word));
         let row = (command, *output, *line);
         expect_row(&rt, number, answers_row(rt.alloc(), &row));
     }

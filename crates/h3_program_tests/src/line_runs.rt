@@ -1,11 +1,12 @@
 //! Runs of command lines. They have no contract: a test compares what a run leaves behind with a row,
-//! and the contract of `run_words` would be in each goal about what calls it.
+//! and the contracts of `read_words` and `run_parsed` would be in each goal about what calls it.
 
-use h3_program::{OpenFile, run_words};
+use h3_program::{OpenFile, run_parsed};
 use h3_streams::{Sink, Source};
+use h3_words::read_words;
 use std::alloc::Global;
 
-/// Runs the words of a command line, as `run_words` of `h3_program` does, and returns the exit status.
+/// Runs what the words of a command line parse as, as `main` does, and returns the exit status.
 pub fn run_line<R: Source, F: OpenFile, W: Sink, E: Sink>(
     alloc: Global,
     words: Vec<String>,
@@ -14,5 +15,5 @@ pub fn run_line<R: Source, F: OpenFile, W: Sink, E: Sink>(
     out: &mut W,
     err: &mut E,
 ) -> u8 {
-    run_words(alloc, words, input, file, out, err)
+    run_parsed(alloc, read_words(alloc, words), input, file, out, err)
 }

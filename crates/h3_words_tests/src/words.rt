@@ -3,7 +3,7 @@
 use crate::expected::{expect, expect_all};
 use h3_parses::read;
 use h3_requests::{Command, IndexFunction};
-use h3_words::reads_list;
+use h3_words::{ListKind, list_of};
 use std::alloc::Global;
 
 /// Whether a line asks for a command without a file.
@@ -53,16 +53,47 @@ static VALID_CELL: [(&str, Option<u64>); 6] = [
 #[test]
 fn reads_commands(rt: HostRuntime) {
     for (line, cell) in &VALID_CELL {
-        let command = Command::IsValidCell { cell: *cell };
+        let command = Command::ForOne(IndexFunction::IsValidCell, *cell);
         expect(&rt, line, asks_for(rt.alloc(), line, command));
+    }
+}
+
+/// Lines of commands, and what these read on standard input.
+static LISTS: [(&str, Option<ListKind>); 10] = [
+    ("h3 getRes0Cells", None),
+    ("h3 isValidCell -c 85283473fffffff", None),
+    (
+        "h3 getDirectedEdgeDestination --edge=115283473fffffff --table=t",
+        None,
+    ),
+    ("h3 compactCells", Some(ListKind::Cells)),
+    ("h3 cellsToZones --zones zones", Some(ListKind::Cells)),
+    ("h3 areValidDirectedEdges", Some(ListKind::Edges)),
+    ("h3 getDirectedEdgeOrigins", Some(ListKind::Edges)),
+    (
+        "h3 getDirectedEdgeDestinations --table=t",
+        Some(ListKind::Edges),
+    ),
+    (
+        "h3 getDirectedEdgeOrigins --csv --column=edge",
+        Some(ListKind::Rows),
+    ),
+    ("h3 uniteCells --field 2", Some(ListKind::Rows)),
+];
+
+/// Whether the command of a line reads this on standard input.
+fn reads_list(alloc: Global, line: &str, list: Option<ListKind>) -> bool {
+    match read(alloc, line) {
+        Ok(words) => list_of(&words) == list,
+        Err(_) => false,
     }
 }
 
 #[test]
 fn some_commands_read_a_list(rt: HostRuntime) {
-    expect(&rt, "compactCells", reads_list(Command::CompactCells));
-    let of_a_cell = Command::IsValidCell { cell: None };
-    expect(&rt, "isValidCell", !reads_list(of_a_cell));
+    for (line, list) in &LISTS {
+        expect(&rt, line, reads_list(rt.alloc(), line, *list));
+    }
 }
 
 /// Lines of commands on a cell, or on nothing.
@@ -70,23 +101,23 @@ static OF_A_CELL: [(&str, Command); 6] = [
     ("h3 getRes0Cells", Command::GetRes0Cells),
     (
         "h3 getResolution -c 85283473fffffff",
-        Command::GetResolution { cell: CELL },
+        Command::ForOne(IndexFunction::GetResolution, CELL),
     ),
     (
         "h3 getBaseCellNumber -c 85283473fffffff",
-        Command::GetBaseCellNumber { cell: CELL },
+        Command::ForOne(IndexFunction::GetBaseCellNumber, CELL),
     ),
     (
         "h3 isPentagon -c 85283473fffffff",
-        Command::IsPentagon { cell: CELL },
+        Command::ForOne(IndexFunction::IsPentagon, CELL),
     ),
     (
         "h3 isResClassIII -c 85283473fffffff",
-        Command::IsResClassIII { cell: CELL },
+        Command::ForOne(IndexFunction::IsResClassIII, CELL),
     ),
     (
         "h3 originToDirectedEdges --cell=85283473fffffff",
-        Command::OriginToDirectedEdges { cell: CELL },
+        Command::ForOne(IndexFunction::OriginToDirectedEdges, CELL),
     ),
 ];
 
@@ -138,15 +169,15 @@ fn reads_resolutions(rt: HostRuntime) {
 static OF_A_CELL_AND_A_RESOLUTION: [(&str, Command); 7] = [
     (
         "h3 cellToParent -r 4 -c 85283473fffffff",
-        Command::CellToParent { cell: CELL, res: 4 },
+        Command::ForOne(IndexFunction::CellToParent { res: 4 }, CELL),
     ),
     (
         "h3 cellToCenterChild -c 85283473fffffff -r +6",
-        Command::CellToCenterChild { cell: CELL, res: 6 },
+        Command::ForOne(IndexFunction::CellToCenterChild { res: 6 }, CELL),
     ),
     (
         "h3 cellToLastChild -r 7 -c 85283473fffffff",
-        Command::CellToLastChild { cell: CELL, res: 7 },
+        Command::ForOne(IndexFunction::CellToLastChild { res: 7 }, CELL),
     ),
     (
         "h3 cellToChildren --cell 85283473fffffff -r6",
@@ -154,11 +185,11 @@ static OF_A_CELL_AND_A_RESOLUTION: [(&str, Command); 7] = [
     ),
     (
         "h3 cellToChildrenSize -c 85283473fffffff -r=0",
-        Command::CellToChildrenSize { cell: CELL, res: 0 },
+        Command::ForOne(IndexFunction::CellToChildrenSize { res: 0 }, CELL),
     ),
     (
         "h3 cellToChildPos -c 85283473fffffff -r 0",
-        Command::CellToChildPos { cell: CELL, res: 0 },
+        Command::ForOne(IndexFunction::CellToChildPos { res: 0 }, CELL),
     ),
     (
         "h3 childPosToCell --position 9223372036854775807 -c 85283473fffffff -r 5",
@@ -241,15 +272,15 @@ fn reads_functions_of_each_cell_of_a_list_and_a_resolution(rt: HostRuntime) {
 static OF_AN_EDGE: [(&str, Command); 3] = [
     (
         "h3 isValidDirectedEdge --edge 115283473fffffff",
-        Command::IsValidDirectedEdge { edge: EDGE },
+        Command::ForOne(IndexFunction::IsValidDirectedEdge, EDGE),
     ),
     (
         "h3 isValidDirectedEdge --edge=xyz",
-        Command::IsValidDirectedEdge { edge: None },
+        Command::ForOne(IndexFunction::IsValidDirectedEdge, None),
     ),
     (
         "h3 getDirectedEdgeOrigin --edge 0X115283473FFFFFFF",
-        Command::GetDirectedEdgeOrigin { edge: EDGE },
+        Command::ForOne(IndexFunction::GetDirectedEdgeOrigin, EDGE),
     ),
 ];
 
