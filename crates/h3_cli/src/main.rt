@@ -3,9 +3,9 @@
 
 use h3_index::H3Error;
 use h3_lines::{AnswerError, Fault, RunError, report, write_all};
-use h3_program::{NamedFile, Retried, SystemFiles, run_parsed};
+use h3_program::{BeforeRun, NamedFile, Retried, SystemFiles, run_words};
 use h3_streams::{Sink, Source, StreamFault, Streamed};
-use h3_words::{CommandFile, ListKind, Words, list_of, read_words};
+use h3_words::{CommandFile, ListKind, Words, list_of};
 use std::alloc::Global;
 use std::fs::File;
 use std::io::{ErrorKind, IsTerminal};
@@ -71,7 +71,7 @@ fn is_input<S: Files<File = File>>(rt: &S, path: &str) -> bool {
 
 /// The error line of a command that would read its list and its file from one pipe; `None` where it
 /// would not.
-fn input_twice<'a, S: Files<File = File>>(rt: &S, asked: &Words) -> Option<&'a str> {
+fn input_twice<S: Files<File = File>>(rt: &S, asked: &Words) -> Option<&'static str> {
     let file = asked.file.as_ref()?;
     list_of(asked)?;
     if !is_input(rt, file.path()) {
@@ -101,6 +101,38 @@ fn closed_input<S: Files<File = File>>(rt: &S) -> Option<File> {
     }
 }
 
+/// What is looked at once the words are parsed, before anything is read.
+#[derive(Drop)]
+struct Preparation<'a, S: Files<File = File>> {
+    rt: &'a S,
+    is_terminal: bool,
+    /// What takes the place of a standard input that is closed.
+    folder: Option<File>,
+}
+
+impl<'a, S: Files<File = File>, R: Source, E: Sink> BeforeRun<Announced<R, E>>
+    for Preparation<'a, S> {
+    ghost use Rattle.std.specs.Prelude.{⊤};
+
+    ghost readies = { λ _ _ _ _. ⊤ };
+
+    ghost refuses = { λ _ _ _. ⊤ };
+
+    fn ready(&mut self, words: &Words, input: &mut Announced<R, E>) -> Result<(), &'static str> {
+        if let Some(line) = input_twice(self.rt, words) {
+            return Err(line);
+        }
+        if self.is_terminal {
+            input.line = list_of(words).map(notice);
+        }
+        // (a missing file may be standard input itself, closed: the folder would then be opened for it)
+        if !is_file_missing(self.rt, words) {
+            self.folder = closed_input(self.rt);
+        }
+        Ok(())
+    }
+}
+
 /// Runs the command that the words ask for over the streams and the file that they name. Where the
 /// user has to type a list, `said` gets a line that says so.
 fn start<S: Env + Files<File = File> + AllocGlobal, R: Source + Drop, W: Sink, E: Sink + Drop>(
@@ -115,28 +147,27 @@ fn start<S: Env + Files<File = File> + AllocGlobal, R: Source + Drop, W: Sink, E
         Ok(words) => words,
         Err(refusal) => return report(err, Err(refusal)),
     };
-    let parsed = read_words(rt.alloc(), words);
     let mut input = Announced {
         input,
         line: None,
         said,
     };
-    let mut is_missing = false;
-    if let Ok(asked) = &parsed {
-        if let Some(line) = input_twice(rt, asked) {
-            let _ = write_all(err, line.as_bytes());
-            return 3;
-        }
-        if is_terminal {
-            input.line = list_of(asked).map(notice);
-        }
-        is_missing = is_file_missing(rt, asked);
-    }
-    // (a missing file may be standard input itself, closed: the folder would then be opened for it)
-    let _kept = if is_missing { None } else { closed_input(rt) };
+    let mut before = Preparation {
+        rt,
+        is_terminal,
+        folder: None,
+    };
     let files = SystemFiles(rt);
     let mut file = NamedFile::new(&files);
-    run_parsed(rt.alloc(), parsed, &mut input, &mut file, out, err)
+    run_words(
+        rt.alloc(),
+        words,
+        &mut before,
+        &mut input,
+        &mut file,
+        out,
+        err,
+    )
 }
 
 fn main(rt: HostRuntime) -> ExitCode {

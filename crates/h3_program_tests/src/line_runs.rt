@@ -1,19 +1,40 @@
 //! Runs of command lines. They have no contract: a test compares what a run leaves behind with a row,
-//! and the contracts of `read_words` and `run_parsed` would be in each goal about what calls it.
+//! and the contract of `run_words` would be in each goal about what calls it.
 
-use h3_program::{OpenFile, run_parsed};
+use h3_program::{BeforeRun, OpenFile, run_words};
 use h3_streams::{Sink, Source};
-use h3_words::read_words;
+use h3_words::Words;
 use std::alloc::Global;
 
-/// Runs what the words of a command line parse as, as `main` does, and returns the exit status.
+/// A list that needs nothing before a run, but may be one that cannot be read, as a line says.
+struct Refusal(Option<&'static str>);
+
+impl<R: Source> BeforeRun<R> for Refusal {
+    ghost use Rattle.std.specs.Prelude.{⊤};
+
+    ghost readies = { λ _ _ _ _. ⊤ };
+
+    ghost refuses = { λ _ _ _. ⊤ };
+
+    fn ready(&mut self, _words: &Words, _input: &mut R) -> Result<(), &'static str> {
+        match self.0 {
+            None => Ok(()),
+            Some(line) => Err(line),
+        }
+    }
+}
+
+/// Runs the words of a command line, as `main` does, and returns the exit status. If there is a refusal, the list
+/// cannot be read, as it says.
 pub fn run_line<R: Source, F: OpenFile, W: Sink, E: Sink>(
     alloc: Global,
     words: Vec<String>,
+    refusal: Option<&'static str>,
     input: &mut R,
     file: &mut F,
     out: &mut W,
     err: &mut E,
 ) -> u8 {
-    run_parsed(alloc, read_words(alloc, words), input, file, out, err)
+    let mut before = Refusal(refusal);
+    run_words(alloc, words, &mut before, input, file, out, err)
 }

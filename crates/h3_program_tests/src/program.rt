@@ -122,10 +122,11 @@ impl Ended {
 }
 
 /// The status of a command line, run over a list, files and these streams, or nothing where
-/// memory runs out for its words.
+/// memory runs out for its words. If there is a refusal, the list cannot be read, as it says.
 fn status_of(
     alloc: Global,
     line: &str,
+    refusal: Option<&'static str>,
     list: &str,
     files: &MemoryFiles<'_>,
     out: &mut Streamed<Flushed>,
@@ -136,14 +137,26 @@ fn status_of(
     };
     let mut input = Streamed::new(list.as_bytes());
     let mut file = NamedFile::new(files);
-    Some(run_line(alloc, words, &mut input, &mut file, out, err))
+    Some(run_line(alloc, words, refusal, &mut input, &mut file, out, err))
 }
 
 /// Runs a command line over a list, and a file at a path.
 fn run_of(alloc: Global, line: &str, list: &str, path: &str, text: &str) -> Option<Ended> {
+    run_unless(alloc, None, line, list, path, text)
+}
+
+/// The same; if there is a refusal, the list cannot be read, as it says.
+fn run_unless(
+    alloc: Global,
+    refusal: Option<&'static str>,
+    line: &str,
+    list: &str,
+    path: &str,
+    text: &str,
+) -> Option<Ended> {
     let files = MemoryFiles::new(path, text);
     let (mut out, mut err) = (flush_counter(), flush_counter());
-    let status = status_of(alloc, line, list, &files, &mut out, &mut err)?;
+    let status = status_of(alloc, line, refusal, list, &files, &mut out, &mut err)?;
     Some(Ended {
         status,
         out: out.into_inner(),
@@ -249,7 +262,7 @@ fn nearly_full() -> Streamed<Flushed> {
 fn is_write_fault(alloc: Global, line: &str) -> bool {
     let files = MemoryFiles::new("", "");
     let (mut out, mut err) = (nearly_full(), flush_counter());
-    let status = status_of(alloc, line, "", &files, &mut out, &mut err);
+    let status = status_of(alloc, line, None, "", &files, &mut out, &mut err);
     let reported = err.into_inner().bytes;
     status == Some(4) && reported.as_slice() == b"fault: write\n".as_slice()
 }
@@ -271,6 +284,38 @@ fn ends(alloc: Global, line: &str, path: &str, text: &str, ending: (u8, &str, &s
     match run_over(alloc, line, path, text) {
         Some(run) => run.is(ending.0, ending.1, ending.2, ending.3),
         None => false,
+    }
+}
+
+/// Why the list of a run cannot be read.
+const REFUSAL: &str = "region: standard input is the list\n";
+
+/// Command lines over a file, and a list that cannot be read: of valid ones that is reported, and nothing is opened; of
+/// others it is not.
+static REFUSED: [(&str, u8, &str, &str); 5] = [
+    ("h3 intersectCells --region t", 3, "", REFUSAL),
+    ("h3 uniteCells", 3, "", REFUSAL),
+    ("h3 isValidCell -c xyz", 3, "", REFUSAL),
+    ("h3 --version", 0, "h3 1.3.0\n", ""),
+    ("h3 -V uniteCells", 0, "h3 1.3.0\n", ""),
+];
+
+/// Whether a command line over a list that cannot be read ends so.
+fn ends_refused(alloc: Global, line: &str, status: u8, output: &str, text: &str) -> bool {
+    match run_unless(alloc, Some(REFUSAL), line, "85283473fffffff\n", "t", "") {
+        Some(run) => run.is(status, output, text, 0),
+        None => false,
+    }
+}
+
+#[test]
+fn a_list_that_cannot_be_read_ends_the_run(rt: HostRuntime) {
+    for (line, status, output, text) in &REFUSED {
+        expect(
+            &rt,
+            line,
+            ends_refused(rt.alloc(), line, *status, output, text),
+        );
     }
 }
 
