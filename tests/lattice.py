@@ -102,33 +102,33 @@ def step(links, cell, direction, turns):
 
 
 def disk(links, cell, k):
-    """The cells of a disk, each with its ring."""
+    """The cells of a disk, each with its ring, up to a step that is refused."""
     if is_pentagon(cell) or k and cell >> 45 & 127 in PENTAGONS:
         raise Refused
-    at, found = (cell, 0), [(cell, 0)]
+    yield cell, 0
+    at = cell, 0
     for ring_number in range(1, k + 1):
         at = step(links, at[0], 4, at[1])
         for side in SIDES:
             for _ in range(ring_number):
                 at = step(links, at[0], side, at[1])
-                found.append((at[0], ring_number))
-    return found
+                yield at[0], ring_number
 
 
 def ring(links, cell, k):
-    if k == 0:
-        return [cell]
-    at = (cell, 0)
+    """The cells of a ring, up to a step that is refused; the last one has to lead to the first."""
+    at = cell, 0
     for _ in range(k):
         at = step(links, at[0], 4, at[1])
-    found = [at[0]]
+    first = at[0]
+    yield first
     for side in SIDES:
-        for _ in range(k):
+        for place in range(k):
             at = step(links, at[0], side, at[1])
-            found.append(at[0])
-    if found.pop() != found[0]:
+            if (side, place) != (SIDES[-1], k - 1):
+                yield at[0]
+    if at[0] != first:
         raise Refused
-    return found
 
 
 # ---- what the commands answer to an index, None where there is none: lines, or an error
