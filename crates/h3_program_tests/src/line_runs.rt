@@ -7,6 +7,7 @@ use h3_words::Words;
 use std::alloc::Global;
 
 /// A list that needs nothing before a run, but may be one that cannot be read, as a line says.
+#[derive(Drop)]
 struct Refusal(Option<&'static str>);
 
 impl<R: Source> BeforeRun<R> for Refusal {
