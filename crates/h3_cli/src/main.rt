@@ -112,9 +112,10 @@ struct Preparation<'a, S: Files<File = File>> {
 
 impl<'a, S: Files<File = File>, R: Source, E: Sink> BeforeRun<Announced<R, E>>
     for Preparation<'a, S> {
-    ghost use Rattle.std.specs.Prelude.{⊤};
+    ghost use Rattle.std.specs.Prelude.{◌≡◌, ⊤};
 
-    ghost readies = { λ _ _ _ _. ⊤ };
+    // Nothing is done to the list itself.
+    ghost readies = { λ _ _ old new. new.input ≡ old.input };
 
     ghost refuses = { λ _ _ _. ⊤ };
 

@@ -6,11 +6,16 @@ use h3_streams::{Sink, Source};
 use h3_words::Words;
 use std::alloc::Global;
 
-/// A list that needs nothing before a run, but may be one that cannot be read, as a line says.
-#[derive(Drop)]
-struct Refusal(Option<&'static str>);
+/// Why a list cannot be read.
+pub const REFUSAL: &str = "region: standard input is the list\n";
 
-impl<R: Source> BeforeRun<R> for Refusal {
+/// A list that needs nothing before a run, but may be one that cannot be read.
+#[derive(Drop)]
+struct Preparation {
+    refuses: bool,
+}
+
+impl<R: Source> BeforeRun<R> for Preparation {
     ghost use Rattle.std.specs.Prelude.{⊤};
 
     ghost readies = { λ _ _ _ _. ⊤ };
@@ -18,24 +23,21 @@ impl<R: Source> BeforeRun<R> for Refusal {
     ghost refuses = { λ _ _ _. ⊤ };
 
     fn ready(&mut self, _words: &Words, _input: &mut R) -> Result<(), &'static str> {
-        match self.0 {
-            None => Ok(()),
-            Some(line) => Err(line),
-        }
+        if self.refuses { Err(REFUSAL) } else { Ok(()) }
     }
 }
 
-/// Runs the words of a command line, as `main` does, and returns the exit status. If there is a refusal, the list
-/// cannot be read, as it says.
+/// Runs the words of a command line, as `main` does, and returns the exit status. If it is refused, its list cannot be
+/// read.
 pub fn run_line<R: Source, F: OpenFile, W: Sink, E: Sink>(
     alloc: Global,
     words: Vec<String>,
-    refusal: Option<&'static str>,
+    refuses: bool,
     input: &mut R,
     file: &mut F,
     out: &mut W,
     err: &mut E,
 ) -> u8 {
-    let mut before = Refusal(refusal);
+    let mut before = Preparation { refuses };
     run_words(alloc, words, &mut before, input, file, out, err)
 }

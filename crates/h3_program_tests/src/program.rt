@@ -1,7 +1,7 @@
 //! Command lines that are run over streams and a file in memory.
 
 use crate::expected::expect;
-use crate::line_runs::run_line;
+use crate::line_runs::{REFUSAL, run_line};
 use arrayvec::ArrayVec;
 use h3_fakes::table_file;
 use h3_parses::words_of;
@@ -122,11 +122,11 @@ impl Ended {
 }
 
 /// The status of a command line, run over a list, files and these streams, or nothing where
-/// memory runs out for its words. If there is a refusal, the list cannot be read, as it says.
+/// memory runs out for its words. If it is refused, its list cannot be read.
 fn status_of(
     alloc: Global,
     line: &str,
-    refusal: Option<&'static str>,
+    refuses: bool,
     list: &str,
     files: &MemoryFiles<'_>,
     out: &mut Streamed<Flushed>,
@@ -137,18 +137,18 @@ fn status_of(
     };
     let mut input = Streamed::new(list.as_bytes());
     let mut file = NamedFile::new(files);
-    Some(run_line(alloc, words, refusal, &mut input, &mut file, out, err))
+    Some(run_line(alloc, words, refuses, &mut input, &mut file, out, err))
 }
 
 /// Runs a command line over a list, and a file at a path.
 fn run_of(alloc: Global, line: &str, list: &str, path: &str, text: &str) -> Option<Ended> {
-    run_unless(alloc, None, line, list, path, text)
+    run_unless(alloc, false, line, list, path, text)
 }
 
-/// The same; if there is a refusal, the list cannot be read, as it says.
+/// The same; if it is refused, its list cannot be read.
 fn run_unless(
     alloc: Global,
-    refusal: Option<&'static str>,
+    refuses: bool,
     line: &str,
     list: &str,
     path: &str,
@@ -156,7 +156,7 @@ fn run_unless(
 ) -> Option<Ended> {
     let files = MemoryFiles::new(path, text);
     let (mut out, mut err) = (flush_counter(), flush_counter());
-    let status = status_of(alloc, line, refusal, list, &files, &mut out, &mut err)?;
+    let status = status_of(alloc, line, refuses, list, &files, &mut out, &mut err)?;
     Some(Ended {
         status,
         out: out.into_inner(),
@@ -262,7 +262,7 @@ fn nearly_full() -> Streamed<Flushed> {
 fn is_write_fault(alloc: Global, line: &str) -> bool {
     let files = MemoryFiles::new("", "");
     let (mut out, mut err) = (nearly_full(), flush_counter());
-    let status = status_of(alloc, line, None, "", &files, &mut out, &mut err);
+    let status = status_of(alloc, line, false, "", &files, &mut out, &mut err);
     let reported = err.into_inner().bytes;
     status == Some(4) && reported.as_slice() == b"fault: write\n".as_slice()
 }
@@ -287,9 +287,6 @@ fn ends(alloc: Global, line: &str, path: &str, text: &str, ending: (u8, &str, &s
     }
 }
 
-/// Why the list of a run cannot be read.
-const REFUSAL: &str = "region: standard input is the list\n";
-
 /// Command lines over a file, and a list that cannot be read: of valid ones that is reported, and nothing is opened; of
 /// others it is not.
 static REFUSED: [(&str, u8, &str, &str); 5] = [
@@ -302,7 +299,7 @@ static REFUSED: [(&str, u8, &str, &str); 5] = [
 
 /// Whether a command line over a list that cannot be read ends so.
 fn ends_refused(alloc: Global, line: &str, status: u8, output: &str, text: &str) -> bool {
-    match run_unless(alloc, Some(REFUSAL), line, "85283473fffffff\n", "t", "") {
+    match run_unless(alloc, true, line, "85283473fffffff\n", "t", "") {
         Some(run) => run.is(status, output, text, 0),
         None => false,
     }

@@ -178,7 +178,7 @@ fn ends<R: AllocGlobal + Files>(rt: &R, line: &str, status: u8, output: &str, te
     let mut err = Streamed::new(Retried::new(interrupted(&mut reported, 3)));
     let alloc = rt.alloc();
     let ended = run_line(
-        alloc, words, None, &mut input, &mut file, &mut out, &mut err,
+        alloc, words, false, &mut input, &mut file, &mut out, &mut err,
     );
     ended == status
         && written.as_slice() == output.as_bytes()
